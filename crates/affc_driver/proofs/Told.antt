@@ -14,7 +14,7 @@ use Rattle.affc_nest.specs.Laws.{HasNest}
 use Rattle.affc_nest.specs.Nests.{nest_of}
 use Rattle.affc_nest.proofs.EntryLemmas.{entries_stand}
 use Rattle.affc_nest.proofs.QuestionLemmas.{place_of, there_is, below_length}
-use Rattle.affc_sched.proofs.PairLemmas.{all_from}
+use Rattle.affc_sched.proofs.Lists.{all_from}
 use Rattle.affc_quast.specs.declared.quast.Flow.{Flow}
 use Rattle.affc_quast.specs.declared.quast.Quast.{Quast}
 use Rattle.affc_quast.specs.Limits.{narrow, AreTreesWithin}

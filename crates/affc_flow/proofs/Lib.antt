@@ -3,6 +3,5 @@ pub mod WriterLemmas
 pub mod NamesLemmas
 pub mod FlowLemmas
 pub mod ExampleProofs
-pub mod AskedLemmas
 pub mod ImageLemmas
 pub mod LoadLemmas

@@ -1,10 +1,9 @@
-//! The questions on last-write trees, what they decide, and lists of them.
+//! The questions on last-write trees, and what they decide.
 #![tactic(auto)]
 
 pub mod asking;
 pub mod examples;
 pub mod laws;
-pub mod listing;
 pub mod load;
 pub mod questions;
 pub mod ranges;

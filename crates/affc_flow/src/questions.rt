@@ -1,25 +1,16 @@
-//! The questions of a leaf that stands alone, as systems.
-ghost use Rattle.std.specs.Prelude.{◌≡◌, ◌+◌, ◌≤◌, ◌++◌, ◌∷◌, [], length, map, flat_map, IsTrue, IfOk, OnOk};
+//! Rows and forms within the limits of systems, and where they don't keep them.
+ghost use Rattle.std.specs.Prelude.{◌≡◌, ◌≤◌, ◌++◌, ◌∷◌, [], length, map, IsTrue, IfOk, OnOk};
 ghost use Rattle.affc_rows.specs.Forms.{HaveColumns};
 ghost use Rattle.affc_nest.specs.Domains.{gap_row, with_rows};
 ghost use Rattle.affc_order.specs.Posed.{form_at};
 ghost use Rattle.affc_order.specs.Spread.{spread};
-ghost use Rattle.affc_sched.specs.Questions.{equal_rows};
 ghost use Rattle.affc_quast.specs.Leaves.{padded, negated};
-ghost use Rattle.affc_flow.specs.Asked.{asked, on, outside, apart};
 
 use affc_rows::{Form, FormFault};
 use affc_system::{BoxOf, RowFault, System};
 use sqlite_items::Items;
 use std::alloc::{AllocError, Global};
 use thiserror::Error;
-
-/// A system, and the ranges of its columns.
-#[derive(Drop)]
-pub struct Question {
-    pub system: System,
-    pub ranges: BoxOf,
-}
 
 /// Why questions aren't listed.
 #[derive(Debug, Clone, Copy, PartialEq, Eq, Error)]
@@ -204,26 +195,6 @@ fn spread_form(
     Ok(form.spread(alloc, params, between, behind)?)
 }
 
-/// Forms, each with so many columns more between and behind.
-pub fn add_spread_forms(
-    alloc: Global,
-    forms: &[Form],
-    params: u32,
-    between: u32,
-    behind: u32,
-    out: &mut Items<Form>,
-) -> Result<(), Unasked>
-    ensures { OnOk result (out.new ≡ out.old ++ map (spread params between behind) forms.now) }
-{
-    match forms {
-        [] => Ok(()),
-        [form, rest @ ..] => {
-            out.push(spread_form(alloc, form, params, between, behind)?)?;
-            add_spread_forms(alloc, rest, params, between, behind, out)
-        }
-    }
-}
-
 /// A form over more columns.
 fn padded(alloc: Global, columns: u32, form: &Form) -> Result<Form, Unasked>
     ensures { IfOk result (λ f. f ≡ padded columns form.now) }
@@ -249,176 +220,5 @@ pub fn add_padded(
             out.push(padded(alloc, columns, form)?)?;
             add_padded(alloc, columns, rest, out)
         }
-    }
-}
-
-/// Adds the rows that a form is another one.
-#[tactic(auto, using(affc_sched::proofs::SystemLemmas::added_twice))]
-fn push_same(alloc: Global, system: &mut System, f: &Form, g: &Form) -> Result<(), Unasked>
-    ensures { OnOk result (system.new ≡ with_rows system.old (gap_row g.now f.now 0 ∷ gap_row f.now g.now 0 ∷ [])) }
-{
-    let low = gap(alloc, g, f, 0)?;
-    push_row(system, low)?;
-    let high = gap(alloc, f, g, 0)?;
-    push_row(system, high)
-}
-
-/// Adds the rows that forms are equal in turn.
-#[tactic(auto, using(affc_sched::proofs::SystemLemmas::added_twice))]
-pub fn push_equal(
-    alloc: Global,
-    system: &mut System,
-    fs: &[Form],
-    gs: &[Form],
-) -> Result<(), Unasked>
-    ensures { OnOk result (system.new ≡ with_rows system.old (equal_rows fs.now gs.now)) }
-{
-    match fs {
-        [] => Ok(()),
-        [f, more_fs @ ..] => match gs {
-            [] => Ok(()),
-            [g, more_gs @ ..] => {
-                push_same(alloc, system, f, g)?;
-                push_equal(alloc, system, more_fs, more_gs)
-            }
-        },
-    }
-}
-
-// ---- Questions.
-
-/// Adds the question of a system.
-pub fn push_question(system: System, ranges: &BoxOf, out: &mut Vec<Question>) -> Result<(), Unasked>
-    ensures { OnOk result (map asked out.new.items ≡ map asked out.old.items ++ record { system = system; ranges = ranges.now } ∷ []) }
-{
-    let ranges = ranges.clone()?;
-    let Ok(()) = out.push(Question { system, ranges }) else {
-        return Err(Unasked::Memory);
-    };
-    Ok(())
-}
-
-/// Adds the question of these rows and those behind the path.
-#[tactic(auto, using(affc_sched::proofs::SystemLemmas::added_twice))]
-pub fn add_question(
-    place: &Place<'_>,
-    first: &[Form],
-    second: &[Form],
-    out: &mut Vec<Question>,
-) -> Result<(), Unasked>
-    ensures { OnOk result (map asked out.new.items ≡ map asked out.old.items ++ on place.now.path.now place.now.ranges.now (first.now ++ second.now) ∷ []) }
-{
-    let mut system = place.path.clone()?;
-    push_rows(&mut system, first)?;
-    push_rows(&mut system, second)?;
-    push_question(system, place.ranges, out)
-}
-
-/// Adds the question of the row `b - a - 1` behind the path.
-fn add_gap(
-    alloc: Global,
-    place: &Place<'_>,
-    a: &Form,
-    b: &Form,
-    out: &mut Vec<Question>,
-) -> Result<(), Unasked>
-    ensures { OnOk result (map asked out.new.items ≡ map asked out.old.items ++ on place.now.path.now place.now.ranges.now (gap_row a.now b.now 1 ∷ []) ∷ []) }
-{
-    let row = gap(alloc, a, b, 1)?;
-    add_question(place, &[], &[row], out)
-}
-
-/// Adds the question of the rows of each of these behind the first and the path.
-pub fn add_orders(
-    place: &Place<'_>,
-    first: &[Form],
-    orders: &[Items<Form>],
-    out: &mut Vec<Question>,
-) -> Result<(), Unasked>
-    ensures { OnOk result (map asked out.new.items ≡ map asked out.old.items ++ map (λ u. on place.now.path.now place.now.ranges.now (first.now ++ u)) orders.now) }
-{
-    match orders {
-        [] => Ok(()),
-        [order, rest @ ..] => {
-            add_question(place, first, order.as_slice(), out)?;
-            add_orders(place, first, rest, out)
-        }
-    }
-}
-
-/// Adds the question of the rows of each of these and of each of those behind the path.
-pub fn add_both(
-    place: &Place<'_>,
-    after: &[Items<Form>],
-    before: &[Items<Form>],
-    out: &mut Vec<Question>,
-) -> Result<(), Unasked>
-    ensures { OnOk result (map asked out.new.items ≡ map asked out.old.items ++ flat_map (λ o. map (λ u. on place.now.path.now place.now.ranges.now (o ++ u)) before.now) after.now) }
-{
-    match after {
-        [] => Ok(()),
-        [order, rest @ ..] => {
-            add_orders(place, order.as_slice(), before, out)?;
-            add_both(place, rest, before, out)
-        }
-    }
-}
-
-/// Adds the questions whether the instance with these images lies outside some row.
-pub fn add_outside(
-    alloc: Global,
-    place: &Place<'_>,
-    images: &[Form],
-    rows: &[Form],
-    out: &mut Vec<Question>,
-) -> Result<(), Unasked>
-    ensures { OnOk result (map asked out.new.items ≡ map asked out.old.items ++ outside place.now.path.now place.now.ranges.now images.now rows.now) }
-{
-    match rows {
-        [] => Ok(()),
-        [row, rest @ ..] => {
-            let made = at_images(alloc, place.path.columns(), images, row)?;
-            let outside = negation(alloc, &made)?;
-            add_question(place, &[], &[outside], out)?;
-            add_outside(alloc, place, images, rest, out)
-        }
-    }
-}
-
-/// Adds the questions whether a subscript is greater, and whether it is less.
-fn add_sides(
-    alloc: Global,
-    place: &Place<'_>,
-    made: &Form,
-    read: &Form,
-    out: &mut Vec<Question>,
-) -> Result<(), Unasked>
-    ensures { OnOk result (map asked out.new.items ≡ map asked out.old.items ++ on place.now.path.now place.now.ranges.now (gap_row read.now made.now 1 ∷ []) ∷ on place.now.path.now place.now.ranges.now (gap_row made.now read.now 1 ∷ []) ∷ []) }
-{
-    add_gap(alloc, place, read, made, out)?;
-    add_gap(alloc, place, made, read, out)
-}
-
-/// Adds the questions whether the instance with these images writes elsewhere than what is read.
-pub fn add_apart(
-    alloc: Global,
-    place: &Place<'_>,
-    images: &[Form],
-    written: &[Form],
-    read: &[Form],
-    out: &mut Vec<Question>,
-) -> Result<(), Unasked>
-    ensures { OnOk result (map asked out.new.items ≡ map asked out.old.items ++ apart place.now.path.now place.now.ranges.now images.now written.now read.now) }
-{
-    match written {
-        [] => Ok(()),
-        [sub, subs @ ..] => match read {
-            [] => Ok(()),
-            [other, others @ ..] => {
-                let made = at_images(alloc, place.path.columns(), images, sub)?;
-                add_sides(alloc, place, &made, other, out)?;
-                add_apart(alloc, place, images, subs, others, out)
-            }
-        },
     }
 }

@@ -59,9 +59,6 @@ module _ (program : Program) (nest : Nest) (trees : List Tree) (schedule : Sched
   pub as_many_ranges : length nest.params ≡ nest.context.columns
   as_many_ranges = subst (λ (n : Nest). length n.params ≡ n.context.columns) (sym a.is) refl
 
-  pub few_parameters : nest.context.columns ≤ 4
-  few_parameters = subst (λ (n : Nest). n.context.columns ≤ 4) (sym a.is) a.has.plain.few_numbers
-
   pub near_parameters : All IsNear nest.params
   near_parameters = subst (λ (n : Nest). All IsNear n.params) (sym a.is) (near_ranges (number_ranges program.params) a.has.plain.ranges)
 

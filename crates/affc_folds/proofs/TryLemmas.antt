@@ -87,9 +87,6 @@ module _ (Answers : List ℕ → ℕ → Type 0) (program : Program) (pairs : �
   worth_tried budget shape r t None e = t.bound (t.unmarked e)
   worth_tried budget shape r t (Some q) e = subst (IsRated Answers program pairs budget array shape) (sym e) t
 
-  pub none_tried : (budget : Account) (shapes : List Shape) → AreTried Answers program pairs budget array shapes []
-  none_tried budget shapes j shape one at at_one = absurd (none-some one at_one)
-
   one_more_tried : (before after : Account) → IsLater before after → (shapes : List Shape) (found : List (Option Rated)) (shape : Shape) (one : Option Rated) → AreTried Answers program pairs before array shapes found
       → slice_get shapes (length found) ≡ Some shape → IsTried Answers program pairs after array shape one → AreTried Answers program pairs after array shapes (found ++ one ∷ [])
   one_more_tried before after later shapes found shape one h here t j s o at at_o = by_place (placed found one j o at_o)

@@ -1,5 +1,5 @@
 -- A pipeline of n stages, as source and schedule: each stage sums three neighbours of the stage before it, and the first copies the input.
-use Rattle.std.specs.Prelude.{ℕ, ◌+◌, ◌-◌, ◌*◌, List, [], ◌∷◌, ◌++◌, codes, decimal}
+use Rattle.std.specs.Prelude.{ℕ, ◌+◌, ◌-◌, ◌*◌, List, ◌++◌, codes, decimal}
 use Rattle.std.specs.List.{flat_map, range_with_len}
 
 -- ---- The source

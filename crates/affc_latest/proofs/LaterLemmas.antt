@@ -36,10 +36,6 @@ use Rattle.affc_latest.proofs.LatestLemmas.{later_of_two, either_order, only_sec
 
 -- ---- A point of one of some orders
 
-pub none_met : (columns : ℕ) (orders : List (List Affine)) (point : List ℤ) → length orders ≡ 0 → (false ≡ true) ↔ IsPointOfOne (map (over columns) orders) point
-none_met columns [] point e = ((λ k. absurd (true≢false (sym k))), λ m. absurd m.there)
-none_met columns (o ∷ os) point e = absurd (omega (arith, e))
-
 pub one_met : (columns : ℕ) (orders rest : List (List Affine)) (order : List Affine) (system : Rows) (point : List ℤ) → orders ≡ order ∷ rest → system ≡ over columns order → IsPoint system point
     → IsPointOfOne (map (over columns) orders) point
 one_met columns orders rest order system point e s m =

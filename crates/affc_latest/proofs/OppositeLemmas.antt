@@ -93,10 +93,6 @@ out_of_opposite (r ∷ rs) (z ∷ zs) h = (other r.0 z h.1, this r.1 z h.0, out_
     this : (u z : ℤ) → neg_ℤ u ≤ℤ z → neg_ℤ z ≤ℤ u
     this u z h = omega (arith, ints)
 
-pub opposite_length : (rs : List (ℤ × ℤ)) → length (opposite_box rs) ≡ length rs
-opposite_length [] = refl
-opposite_length (r ∷ rs) = ap suc (opposite_length rs)
-
 pub opposite_reach : (rs : List (ℤ × ℤ)) → All WithinReach rs → All WithinReach (opposite_box rs)
 opposite_reach [] h = All-nil WithinReach
 opposite_reach (r ∷ rs) h =
@@ -144,9 +140,6 @@ none s rs n xs h g = n (map neg_ℤ xs) (in_opposite rs xs h) (to_opposite s xs 
 module _ (s turned : Rows) (rs turned_rs : List (ℤ × ℤ)) (is : turned ≡ opposite_system s) (box : turned_rs ≡ map opposite_range rs) where
   pub reach_there : All WithinReach rs → All WithinReach turned_rs
   reach_there h = subst (All WithinReach) (sym box) (opposite_reach rs h)
-
-  pub long_there : length rs ≡ s.columns → length turned_rs ≡ turned.columns
-  long_there h = ap length box ∙ opposite_length rs ∙ h ∙ sym (ap (λ (r : Rows). r.columns) is)
 
   pub greatest_there : (zs : List ℤ) → IsLeastPoint turned turned_rs zs → IsGreatestPoint s rs (map neg_ℤ zs)
   greatest_there zs m = greatest s rs zs (subst (λ b. IsLeastPoint (opposite_system s) b zs) box (subst (λ t. IsLeastPoint t turned_rs zs) is m))

@@ -1,12 +1,11 @@
 -- Lists of questions that are answered, one after the other.
-use Rattle.std.proofs.Common.{◌≡◌, ℕ, ◌+◌, ℤ, List, [], ◌∷◌, ◌++◌, length, map, flat_map, take, drop, Option, Some, None, refl, sym, ap, subst, ◌∙◌, inl, inr}
+use Rattle.std.proofs.Common.{◌≡◌, ℕ, ◌+◌, ◌<◌, get_or, ℤ, List, [], ◌∷◌, ◌++◌, length, map, flat_map, take, drop, Option, Some, None, refl, sym, ap, subst, ◌∙◌, inl, inr}
 use Rattle.affc_farkas.specs.declared.proof.Proof.{Proof}
 use Rattle.affc_leaf.specs.Points.{IsLeastPoint}
 use Rattle.affc_system.specs.Boxes.{InBox}
 use Rattle.affc_system.specs.Order.{LexLe}
 use Rattle.affc_system.specs.Systems.{Rows, IsPoint}
 use Rattle.affc_ast.specs.declared.tree.Instance.{Instance}
-use Rattle.affc_trace.specs.declared.schedule.Schedule.{Schedule}
 use Rattle.affc_trace.specs.Law.{IsIn}
 use Rattle.affc_trace.proofs.EndedReads.{append_assoc}
 use Rattle.affc_trace.proofs.Members.{to_first, to_second}
@@ -17,7 +16,8 @@ use Rattle.affc_nest.specs.Parts.{coordinates, statement_of}
 use Rattle.affc_order.specs.Systems.{loops_of, coordinates_of}
 use Rattle.affc_legal.specs.Answered.{AreShown, Settles, spot_at, IsFoundAt, IsFirstOf, AreAnswered, IsNearer, question_on, IsFoundAs, AreRanges}
 use Rattle.affc_sched.specs.Laws.{first_at, second_at}
-use Rattle.affc_sched.specs.Questions.{Question, Touch, questions_to, questions_with}
+use Rattle.affc_products.proofs.ProvedLemmas.{flat_more}
+use Rattle.affc_sched.specs.Questions.{Question}
 use Rattle.affc_legal.specs.Violations.{spot_of}
 use Rattle.affc_legal.specs.declared.violation.Violation.{Violation}
 use Rattle.affc_legal.proofs.SpotLemmas.{lex_trans, points_spots}
@@ -78,15 +78,11 @@ module _ (nest : Nest) where
 
 -- ---- One question after the other
 
-module _ {A : Type 0} (nest : Nest) (f : A → List Question) (xs rest : List A) (x : A) (front : xs ≡ x ∷ rest) where
-  pub answered_next : (old mid new : List Proof) (a b c : Option Violation) → AreAnswered nest (f x) old mid a → AreAnswered nest (flat_map f rest) mid new b → IsNearer a b c
-      → AreAnswered nest (flat_map f xs) old new c
-  answered_next old mid new a b c h g n = subst (λ ys. AreAnswered nest (flat_map f ys) old new c) (sym front) (answered_both nest (f x) (flat_map f rest) old mid new a b c h g n)
-
--- the questions of an access and those of all statements
-pub answered_with : (nest : Nest) (schedule : Schedule) (a : Entry) (x : Touch) (entries : List Entry) → entries ≡ nest.entries → (old new : List Proof) (found : Option Violation)
-    → AreAnswered nest (flat_map (questions_to nest schedule a x) entries) old new found → AreAnswered nest (questions_with nest schedule a x) old new found
-answered_with nest schedule a x entries e old new found h = subst (λ es. AreAnswered nest (flat_map (questions_to nest schedule a x) es) old new found) e h
+pub answered_next : {A : Type 0} (nest : Nest) (f : A → List Question) (xs : List A) (i : ℕ) (x : A) (old mid new : List Proof) (a b c : Option Violation) → i < length xs → x ≡ get_or xs i x
+    → AreAnswered nest (flat_map f (take i xs)) old mid a → AreAnswered nest (f x) mid new b → IsNearer a b c → AreAnswered nest (flat_map f (take (i + 1) xs)) old new c
+answered_next nest f xs i x old mid new a b c l e h g n =
+    subst (λ qs. AreAnswered nest qs old new c) (sym (flat_more f xs i x l ∙ ap (λ z. flat_map f (take i xs) ++ f z) (sym e)))
+    (answered_both nest (flat_map f (take i xs)) (f x) old mid new a b c h g n)
 
 pub answered_more : (nest : Nest) (f : Rows → Question) (xs rest : List Rows) (x : Rows) → xs ≡ x ∷ rest → (old mid new : List Proof) (a b c : Option Violation)
     → AreAnswered nest (f x ∷ []) old mid a → AreAnswered nest (map f rest) mid new b → IsNearer a b c → AreAnswered nest (map f xs) old new c

@@ -17,7 +17,8 @@ use Rattle.affc_nest.proofs.QuestionProofs.{nest_near}
 use Rattle.affc_order.specs.Systems.{pair_columns}
 use Rattle.affc_legal.specs.Answered.{IsFoundAs, AreRanges}
 use Rattle.affc_sched.proofs.LegalLemmas.{entry_at}
-use Rattle.affc_sched.proofs.PairLemmas.{all_from, stands_in, columns_of_pair}
+use Rattle.affc_sched.proofs.Lists.{all_from}
+use Rattle.affc_sched.proofs.PairLemmas.{stands_in, columns_of_pair}
 
 -- ---- Ranges
 

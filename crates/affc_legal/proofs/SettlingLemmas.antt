@@ -25,8 +25,10 @@ use Rattle.affc_nest.specs.Nests.{nest_of}
 use Rattle.affc_nest.specs.Parts.{statement_of}
 use Rattle.affc_order.specs.Systems.{loops_of, coordinates_of, pair_columns, source_systems, turned_systems}
 use Rattle.affc_order.proofs.OrderLemmas.{as_many_loops, statement_is}
-use Rattle.affc_sched.specs.Touched.{IsTouched, Each}
-use Rattle.affc_legal.specs.Answered.{AreShown, Settles, spot_at, IsFirstOf, AreAnswered, AreRanges, question_on}
+use Rattle.affc_sched.specs.Pairs.{IsPair, asked_of}
+use Rattle.affc_sched.specs.Touched.{Each}
+use Rattle.affc_sched.specs.declared.pairs.Pair.{Pair}
+use Rattle.affc_legal.specs.Answered.{AreShown, Settles, spot_at, IsFirstOf, AreAnswered, question_on}
 use Rattle.affc_sched.specs.Laws.{parameters_at, first_at, second_at, NoneHasAPoint}
 use Rattle.affc_legal.specs.Legal.{IsLegal, IsFirstIllegal, AreProofs}
 use Rattle.affc_sched.specs.Questions.{Question, pair_rows, question, pair_questions, legality_questions}
@@ -35,7 +37,7 @@ use Rattle.affc_legal.specs.declared.violation.Violation.{Violation}
 use Rattle.affc_legal.proofs.AnsweredLemmas.{none_shown}
 use Rattle.affc_sched.proofs.LegalLemmas.{points_violate, violations_are_points, questions_decide, points_are_boxed}
 use Rattle.affc_sched.proofs.Lists.{each_from}
-use Rattle.affc_legal.proofs.RangeLemmas.{ranges_long, are_ranges}
+use Rattle.affc_legal.proofs.RangeLemmas.{ranges_long}
 
 -- ---- One pair of accesses
 
@@ -68,25 +70,23 @@ by_systems nest a b ranges (q ∷ qs) e f =
     let same : question_on a b ranges q.system ≡ q = λ i. record { first = sym s.first i; second = sym s.second i; system = q.system; ranges = r i } in
     ap (λ z. z ∷ map (question_on a b ranges) (map (λ (z : Question). z.system) qs)) same ∙ ap (λ zs. q ∷ zs) (by_systems nest a b ranges qs e (λ z i. f z (inr i)))
 
-pub pair_answered : (nest : Nest) (schedule : Schedule) (a b : Entry) (x y : Access) (systems : List Rows) (ranges : List (ℤ × ℤ)) (old new : List Proof) (found : Option Violation)
-    → systems ≡ map (λ (q : Question). q.system) (pair_questions nest a b schedule x y) → ranges ≡ nest.params ++ (a.ranges ++ b.ranges)
-    → AreAnswered nest (map (question_on a b ranges) systems) old new found → AreAnswered nest (pair_questions nest a b schedule x y) old new found
-pair_answered nest schedule a b x y systems ranges old new found s r h =
-    subst (λ qs. AreAnswered nest qs old new found)
-    (ap (map (question_on a b ranges)) s ∙ by_systems nest a b ranges (pair_questions nest a b schedule x y) r (paired nest schedule a b x y)) h
+module _ (nest : Nest) (schedule : Schedule) (p : Pair) (systems : List Rows) (ranges : List (ℤ × ℤ)) (made : systems ≡ map (λ (q : Question). q.system) (asked_of nest schedule p))
+    (are : ranges ≡ nest.params ++ (p.from.entry.now.ranges ++ p.to.entry.now.ranges)) where
+  pub pair_answered : (old new : List Proof) (found : Option Violation) → AreAnswered nest (map (question_on p.from.entry.now p.to.entry.now ranges) systems) old new found
+      → AreAnswered nest (asked_of nest schedule p) old new found
+  pair_answered old new found =
+      let a : Entry = p.from.entry.now in
+      let b : Entry = p.to.entry.now in
+      subst (λ qs. AreAnswered nest qs old new found)
+      (ap (map (question_on a b ranges)) made ∙ by_systems nest a b ranges (asked_of nest schedule p) are (paired nest schedule a b p.from.access.now p.to.access.now))
 
-pub ranges_fit : (nest : Nest) (n : IsNest nest) (schedule : Schedule) (a b : Entry) (x y : Access) → IsTouched nest a x → IsTouched nest b y
-    → (ranges : List (ℤ × ℤ)) → ranges ≡ nest.params ++ (a.ranges ++ b.ranges) → (systems : List Rows) → systems ≡ map (λ (q : Question). q.system) (pair_questions nest a b schedule x y)
-    → Each (λ (s : Rows). length ranges ≡ s.columns) systems
-ranges_fit nest n schedule a b x y from to ranges are systems e =
-    subst (Each (λ (s : Rows). length ranges ≡ s.columns)) (sym e)
-    (each_from (λ (s : Rows). length ranges ≡ s.columns) (map (λ (q : Question). q.system) (pair_questions nest a b schedule x y)) (λ s i.
-    let k = in_map (λ (q : Question). q.system) (pair_questions nest a b schedule x y) s i in
-    ranges_long nest n a b from.there to.there from.alive to.alive ranges are ∙ sym (ap (λ (r : Rows). r.columns) k.2 ∙ (paired nest schedule a b x y k.0 k.1).columns)))
-
-pub ranges_are : (nest : Nest) (n : IsNest nest) (a b : Entry) (x y : Access) → IsTouched nest a x → IsTouched nest b y
-    → (ranges : List (ℤ × ℤ)) → ranges ≡ nest.params ++ (a.ranges ++ b.ranges) → AreRanges nest a b ranges
-ranges_are nest n a b x y from to ranges are = are_ranges nest n a b from.there to.there from.alive to.alive ranges are
+  pub ranges_fit : IsNest nest → IsPair nest p → Each (λ (s : Rows). length ranges ≡ s.columns) systems
+  ranges_fit n h =
+      subst (Each (λ (s : Rows). length ranges ≡ s.columns)) (sym made)
+      (each_from (λ (s : Rows). length ranges ≡ s.columns) (map (λ (q : Question). q.system) (asked_of nest schedule p)) (λ s i.
+      let k = in_map (λ (q : Question). q.system) (asked_of nest schedule p) s i in
+      ranges_long nest n p.from.entry.now p.to.entry.now h.from.there h.to.there h.from.alive h.to.alive ranges are
+      ∙ sym (ap (λ (r : Rows). r.columns) k.2 ∙ (paired nest schedule p.from.entry.now p.to.entry.now p.from.access.now p.to.access.now k.0 k.1).columns)))
 
 -- ---- All questions
 

@@ -1,13 +1,11 @@
 //! Whether a schedule is legal.
 ghost use Rattle.std.specs.Prelude.{◌≡◌, ◌≤◌, Some, IsNone, IfOk, OnOk, IfErr};
-ghost use Rattle.affc_split.specs.Budgets.{IsLater};
-ghost use Rattle.affc_legal.specs.Answered.{AreAnswered};
 ghost use Rattle.affc_legal.specs.Answers.{IfIllegal};
 ghost use Rattle.affc_legal.specs.Legal.{IsLegal, IsFirstIllegal, AreProofs};
 ghost use Rattle.affc_sched.specs.Legality.{IsAsked};
 ghost use Rattle.affc_sched.specs.Questions.{legality_questions};
 
-use crate::settling::settle_all;
+use crate::settling::settle;
 use crate::violation::Violation;
 use affc_ast::tree::Instance;
 use affc_farkas::Proof;
@@ -50,28 +48,6 @@ impl From<Stop> for SchedStop {
         match stop {
             Stop::Budget => SchedStop::Budget,
             Stop::Memory => SchedStop::Memory,
-        }
-    }
-}
-
-/// Answers all questions on a schedule.
-fn settle(
-    alloc: Global,
-    nest: &Nest,
-    schedule: &Schedule,
-    budget: &mut Budget,
-    out: &mut Vec<Proof>,
-) -> Result<Option<Violation>, Stop>
-    requires asked { IsAsked nest.now schedule.now }
-    ensures answered { IfOk result (AreAnswered nest.now (legality_questions nest.now schedule.now) out.old.items out.new.items) }
-    ensures later { IsLater budget.old budget.new }
-    ensures stop { IfErr result (λ e. e ≡ Stop.Budget → budget.new.limit ≡ Some budget.new.spent) }
-{
-    match schedule {
-        Schedule::Source => Ok(None),
-        Schedule::Time { .. } => {
-            let entries = nest.entries.as_slice();
-            settle_all(alloc, nest, schedule, entries, budget, out)
         }
     }
 }

@@ -1,10 +1,8 @@
--- Lists of choices, and the drafts with them.
+-- Lists of choices.
 use Rattle.std.proofs.Common.{◌≡◌, List, [], ◌∷◌, ◌++◌, map, flat_map, append_assoc, refl, sym, ap, ◌∙◌}
 use Rattle.std.proofs.lemmas.List.{map-append, append-nil}
 use Rattle.affc_rows.specs.Forms.{Affine}
 use Rattle.affc_products.specs.Blocks.{choices}
-use Rattle.affc_life.specs.declared.draft.Draft.{Draft}
-use Rattle.affc_life.specs.Drafts.{draft_by, drafts_behind}
 
 -- ---- Maps
 
@@ -40,16 +38,3 @@ pub first_factor : (front : List Affine) (us : List (List Affine)) (factors : Li
 first_factor front us factors =
     map_flat (λ c. front ++ c) (λ u. map (λ v. u ++ v) (choices factors)) us
     ∙ flat_same (λ u. map (λ c. front ++ c) (map (λ v. u ++ v) (choices factors))) (λ u. map (λ c. (front ++ u) ++ c) (choices factors)) (λ u. behind_both front u (choices factors)) us
-
--- ---- Drafts
-
--- those of the first alternative of a factor, and those of the others
-pub in_alternatives : (d : Draft) (rows : List Affine) (alternatives rest : List (List Affine)) (factors : List (List (List Affine))) (alternative : List Affine) → alternatives ≡ alternative ∷ rest
-    → drafts_behind d rows (alternatives ∷ factors) ≡ drafts_behind d (rows ++ alternative) factors ++ drafts_behind d rows (rest ∷ factors)
-in_alternatives d rows alternatives rest factors alternative e =
-    ap (λ us. drafts_behind d rows (us ∷ factors)) e
-    ∙ map-append (λ c. draft_by d (rows ++ c)) (map (λ v. alternative ++ v) (choices factors)) (choices (rest ∷ factors))
-    ∙ ap (λ cs. cs ++ drafts_behind d rows (rest ∷ factors)) (
-    map_twice (λ c. draft_by d (rows ++ c)) (λ v. alternative ++ v) (choices factors)
-    ∙ map_same (λ v. draft_by d (rows ++ (alternative ++ v))) (λ v. draft_by d ((rows ++ alternative) ++ v)) (λ v. ap (draft_by d) (sym (append_assoc rows alternative v))) (choices factors)
-    )

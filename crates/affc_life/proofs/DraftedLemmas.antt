@@ -30,14 +30,14 @@ use Rattle.affc_quast.specs.Sources.{loads_in}
 use Rattle.affc_quast.specs.Trees.{Tree}
 use Rattle.affc_quast.proofs.LeafLemmas.{padded_width}
 use Rattle.affc_life.specs.declared.draft.Draft.{Draft}
-use Rattle.affc_life.specs.Asked.{KeepLimits, AreSeated}
+use Rattle.affc_life.specs.Asked.{KeepLimits, AreSeated, StandBeside}
 use Rattle.affc_life.specs.Clashes.{Clash, Order, Walk, clashes_of_entry, clash_columns, of_reader, of_writer, front_rows, reader_posed, named_posed, writer_posed, clashes_of}
 use Rattle.affc_life.specs.Drafts.{drafted, IsPaired}
 use Rattle.affc_life.proofs.LeafLemmas.{path_of}
 use Rattle.affc_life.proofs.LightLemmas.{all_map}
 use Rattle.affc_life.proofs.MadeLemmas.{OfWalk, of_walk}
 use Rattle.affc_life.proofs.RowLemmas.{between_all, Compared, order_all}
-use Rattle.affc_life.proofs.SeatedLemmas.{its_rows, reader_first, leaf_narrow, load_subscripts, store_subscripts, writer_whole, reader_forms, writer_forms, named_forms}
+use Rattle.affc_life.proofs.SeatedLemmas.{its_rows, at_leaf, reader_first, leaf_narrow, load_subscripts, store_subscripts, writer_whole, reader_forms, writer_forms, named_forms}
 
 -- each system of an order of two instances over so many columns is over these
 abbrev pub KeepsWidth : Nest → Order → Type 0
@@ -63,16 +63,19 @@ module _ (nest : Nest) (n : IsNest nest) (trees : List Tree) (limits : KeepLimit
   pub reader_there : slice_get nest.entries k.reader.part ≡ Some k.reader
   reader_there = subst (λ (x : Nest). slice_get x.entries k.reader.part ≡ Some k.reader) (sym n.is) (entry_at n.program n.has k.reader (subst (λ (x : Nest). IsIn k.reader x.entries) n.is k.reader_in))
 
-  pub seated : AreSeated nest k.reader k.leaf k.of_leaf.writer
-  seated = record {
+  pub at_its_leaf : AreSeated nest k.reader k.leaf k.of_leaf.writer
+  at_its_leaf = record {
     nested = n;
     reads = record { there = k.reader_in; alive = k.alive };
     path = path_of nest (length nest.params + length k.reader.loops) k.tree (limits k.reader.part k.number k.reader k.tree reader_there k.counts k.tree_there) k.leaf k.leaf_in;
     writes = record { there = k.of_leaf.writer_in; alive = k.of_leaf.writer_alive };
   }
 
+  pub seated : StandBeside nest k.reader k.leaf k.of_leaf.writer
+  seated = at_leaf nest k.reader k.leaf k.of_leaf.writer at_its_leaf
+
   pub named_has : IsPlaced nest k.leaf.columns k.of_leaf.named
-  named_has = seated.path.named k.of_leaf.named k.of_leaf.names
+  named_has = at_its_leaf.path.named k.of_leaf.named k.of_leaf.names
 
   -- what each row keeps
   pub rows_all : (P Q : Affine → Type 0) → ((f g : Affine) (j : ℕ) → Q f → Q g → j ≤ 1 → P (gap_row f g j)) → All P (front_rows nest k.reader k.leaf k.of_leaf.writer)

@@ -17,7 +17,7 @@ use Rattle.affc_products.specs.Parts.{IsWithin}
 use Rattle.affc_life.specs.declared.draft.Draft.{Draft}
 use Rattle.affc_life.specs.declared.clash.ClashProduct.{ClashProduct}
 use Rattle.affc_life.specs.Clashes.{Clash, clash_of}
-use Rattle.affc_life.specs.Drafts.{drafted, draft_by, drafts_behind, IsPaired}
+use Rattle.affc_life.specs.Drafts.{drafted, draft_by, IsPaired}
 use Rattle.affc_life.specs.Products.{systems_in}
 use Rattle.affc_life.specs.Sizes.{IsLarge, AnyLarge}
 use Rattle.affc_products.proofs.ChoiceLemmas.{Chosen, within_all, factors_all}
@@ -167,20 +167,6 @@ pub factors_fit : (columns : ℕ) (front : List Affine) (fs : List (List (List A
 factors_fit columns front fs n h = factors_all columns fs (within_all columns front fs (alternatives_there fs n) (recursion_from_All IsWithin (product columns front fs) h)).factors_fit
 
 -- ---- Entries
-
-three_entries : {A : Type 0} (xs : List A) (a b c : A) → length xs ≡ 3 → a ≡ get_or xs 0 a → b ≡ get_or xs 1 b → c ≡ get_or xs 2 c → xs ≡ a ∷ b ∷ c ∷ []
-three_entries [] a b c n i j k = absurd (omega (arith, n))
-three_entries (x ∷ []) a b c n i j k = absurd (omega (arith, n))
-three_entries (x ∷ y ∷ []) a b c n i j k = absurd (omega (arith, n))
-three_entries (x ∷ y ∷ z ∷ []) a b c n i j k = ap (λ u. u ∷ y ∷ z ∷ []) (sym i) ∙ ap (λ u. a ∷ u ∷ z ∷ []) (sym j) ∙ ap (λ u. a ∷ b ∷ u ∷ []) (sym k)
-three_entries (x ∷ y ∷ z ∷ w ∷ ws) a b c n i j k = absurd (omega (arith, n))
-
--- the three factors of a draft
-pub of_three : (d : Draft) (factors : List (List (List Affine))) (firsts seconds thirds a b e : List (List Affine)) → factors ≡ d.factors → a ≡ get_or factors 0 a → b ≡ get_or factors 1 b → e ≡ get_or factors 2 e
-    → firsts ≡ a → seconds ≡ b → thirds ≡ e → drafts_behind d [] (firsts ∷ seconds ∷ thirds ∷ []) ≡ drafted d
-of_three d factors firsts seconds thirds a b e f x y z i j k =
-    ap (λ us. drafts_behind d [] (us ∷ seconds ∷ thirds ∷ [])) i ∙ ap (λ us. drafts_behind d [] (a ∷ us ∷ thirds ∷ [])) j ∙ ap (λ us. drafts_behind d [] (a ∷ b ∷ us ∷ [])) k
-    ∙ ap (λ fs. drafts_behind d [] fs) (sym (three_entries factors a b e (ap length f ∙ d.three) x y z) ∙ f)
 
 entry_in : {A : Type 0} (xs : List A) (i : ℕ) (x : A) → i < length xs → x ≡ get_or xs i x → IsIn x xs
 entry_in [] i x h e = absurd (omega (arith, h))

@@ -30,7 +30,7 @@ use Rattle.affc_sched.proofs.LegalLemmas.{entry_at}
 use Rattle.affc_sched.proofs.PairLemmas.{stands_in}
 use Rattle.affc_sched.proofs.WidthLemmas.{domain_wide}
 use Rattle.affc_quast.specs.Leaves.{padded, Leaf}
-use Rattle.affc_life.specs.Asked.{IsLiving, AreSeated}
+use Rattle.affc_life.specs.Asked.{IsLiving, AreSeated, StandBeside}
 use Rattle.affc_life.specs.Clashes.{Clash, Walk, differing, clash_columns, of_reader, of_writer, front_rows, clash_ranges, reader_posed, named_posed, writer_posed, rows_of_clashes, clash, clashes_of_store}
 use Rattle.affc_life.proofs.BoxedLemmas.{all_reach, ranges_are, entry_reach}
 use Rattle.affc_life.proofs.WalkLemmas.{between_is}
@@ -82,7 +82,7 @@ module _ (nest : Nest) (n : IsNest nest) (e : Entry) (living : IsLiving nest e) 
 
 -- ---- Three together
 
-module _ (nest : Nest) (reader : Entry) (leaf : Leaf) (writer : Entry) (s : AreSeated nest reader leaf writer) where
+module _ (nest : Nest) (reader : Entry) (leaf : Leaf) (writer : Entry) (s : StandBeside nest reader leaf writer) where
   pub params_few : length nest.params ≤ 4
   params_few = nest_few nest s.nested
 
@@ -92,20 +92,8 @@ module _ (nest : Nest) (reader : Entry) (leaf : Leaf) (writer : Entry) (s : AreS
   pub writer_few : length writer.loops ≤ 6
   writer_few = few_numbered nest writer s.nested s.writes.there
 
-  pub leaf_few : leaf.columns ≤ 410
-  leaf_few = sum leaf.columns (length nest.params) (length reader.loops) (length leaf.divisions) s.path.count params_few reader_few s.path.few
-    where
-      sum : (c m l d : ℕ) → c ≡ (m + l) + d → m ≤ 4 → l ≤ 6 → d ≤ 400 → c ≤ 410
-      sum c m l d e h g i = omega (arith, e, h, g, i)
-
-  pub path_first : length nest.params + length reader.loops ≤ leaf.columns
-  path_first = first leaf.columns (length nest.params + length reader.loops) (length leaf.divisions) s.path.count
-    where
-      first : (c m d : ℕ) → c ≡ m + d → m ≤ c
-      first c m d e = omega (arith, e)
-
   pub params_first : length nest.params ≤ leaf.columns
-  params_first = first (length nest.params) (length reader.loops) leaf.columns path_first
+  params_first = first (length nest.params) (length reader.loops) leaf.columns s.first
     where
       first : (m l c : ℕ) → m + l ≤ c → m ≤ c
       first m l c h = omega (arith, h)
@@ -117,7 +105,7 @@ module _ (nest : Nest) (reader : Entry) (leaf : Leaf) (writer : Entry) (s : AreS
       more c l = omega arith
 
   pub reader_first : length nest.params + length reader.loops ≤ clash_columns nest reader leaf writer
-  reader_first = through (length nest.params + length reader.loops) leaf.columns (clash_columns nest reader leaf writer) path_first leaf_first
+  reader_first = through (length nest.params + length reader.loops) leaf.columns (clash_columns nest reader leaf writer) s.first leaf_first
 
   -- ---- Rows
 
@@ -128,7 +116,7 @@ module _ (nest : Nest) (reader : Entry) (leaf : Leaf) (writer : Entry) (s : AreS
 
   pub leaf_narrow : All (λ f. length f.coefs ≤ clash_columns nest reader leaf writer) leaf.rows
   leaf_narrow =
-      All-weaker (λ f. length f.coefs ≤ leaf.columns) (λ f. length f.coefs ≤ clash_columns nest reader leaf writer) (λ f h. through (length f.coefs) leaf.columns (clash_columns nest reader leaf writer) h leaf_first) leaf.rows s.path.rows
+      All-weaker (λ f. length f.coefs ≤ leaf.columns) (λ f. length f.coefs ≤ clash_columns nest reader leaf writer) (λ f h. through (length f.coefs) leaf.columns (clash_columns nest reader leaf writer) h leaf_first) leaf.rows s.rows
 
   -- ---- Subscripts
 
@@ -190,11 +178,32 @@ module _ (nest : Nest) (reader : Entry) (leaf : Leaf) (writer : Entry) (s : AreS
   pub start_long : length (nest.params ++ reader.ranges) ≡ length nest.params + length reader.loops
   start_long = length_append nest.params reader.ranges ∙ ap (λ k. length nest.params + k) (its_ranges nest s.nested reader s.reads).0
 
-  pub start_few : length (nest.params ++ reader.ranges) + length leaf.divisions ≤ 500
-  start_few = sum (length (nest.params ++ reader.ranges)) (length nest.params) (length reader.loops) (length leaf.divisions) start_long params_few reader_few s.path.few
-    where
-      sum : (k m l d : ℕ) → k ≡ m + l → m ≤ 4 → l ≤ 6 → d ≤ 400 → k + d ≤ 500
-      sum k m l d e h g i = omega (arith, e, h, g, i)
+-- ---- A leaf
+
+-- it is over the columns of its reader's part and a quotient for each division
+pub at_leaf : (nest : Nest) (reader : Entry) (leaf : Leaf) (writer : Entry) → AreSeated nest reader leaf writer → StandBeside nest reader leaf writer
+at_leaf nest reader leaf writer s = record {
+  nested = s.nested;
+  reads = s.reads;
+  first = most leaf.columns (length nest.params + length reader.loops) (length leaf.divisions) s.path.count;
+  few = sum leaf.columns (length nest.params) (length reader.loops) (length leaf.divisions) s.path.count (nest_few nest s.nested) (few_numbered nest reader s.nested s.reads.there) s.path.few;
+  rows = s.path.rows;
+  writes = s.writes;
+}
+  where
+    most : (c m d : ℕ) → c ≡ m + d → m ≤ c
+    most c m d e = omega (arith, e)
+
+    sum : (c m l d : ℕ) → c ≡ (m + l) + d → m ≤ 4 → l ≤ 6 → d ≤ 400 → c ≤ 410
+    sum c m l d e h g i = omega (arith, e, h, g, i)
+
+pub start_few : (nest : Nest) (reader : Entry) (leaf : Leaf) (writer : Entry) → AreSeated nest reader leaf writer → length (nest.params ++ reader.ranges) + length leaf.divisions ≤ 500
+start_few nest reader leaf writer s =
+    let b = at_leaf nest reader leaf writer s in
+    sum (length (nest.params ++ reader.ranges)) (length nest.params) (length reader.loops) (length leaf.divisions) (start_long nest reader leaf writer b) (params_few nest reader leaf writer b) (reader_few nest reader leaf writer b) s.path.few
+  where
+    sum : (k m l d : ℕ) → k ≡ m + l → m ≤ 4 → l ≤ 6 → d ≤ 400 → k + d ≤ 500
+    sum k m l d e h g i = omega (arith, e, h, g, i)
 
 -- ---- Rows in front
 

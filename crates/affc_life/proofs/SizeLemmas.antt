@@ -34,13 +34,13 @@ use Rattle.affc_sched.proofs.PairLemmas.{few_subs}
 use Rattle.affc_quast.specs.Leaves.{padded}
 use Rattle.affc_quast.specs.Limits.{IsTreeWithin, narrow}
 use Rattle.affc_quast.specs.Trees.{Tree, depth_of, divisions_of}
-use Rattle.affc_life.specs.Asked.{KeepLimits, AreSeated}
+use Rattle.affc_life.specs.Asked.{KeepLimits, StandBeside}
 use Rattle.affc_life.specs.Clashes.{Clash, Walk, live_walk, of_reader, of_writer, front_rows, reader_posed, named_posed, writer_posed}
 use Rattle.affc_life.specs.Laws.{AreFound, FoundTreesAreNeverLarge}
 use Rattle.affc_life.specs.Sizes.{IsLarge}
 use Rattle.affc_life.proofs.CountLemmas.{order_count, between_count}
 use Rattle.affc_life.proofs.DomainLemmas.{domain_fits}
-use Rattle.affc_life.proofs.DraftedLemmas.{columns, reader_there, seated, named_has, rows_all, x_subscripts, y_subscripts}
+use Rattle.affc_life.proofs.DraftedLemmas.{columns, reader_there, at_its_leaf, seated, named_has, rows_all, x_subscripts, y_subscripts}
 use Rattle.affc_life.proofs.FoundLeafLemmas.{IsSmall, leaf_small}
 use Rattle.affc_life.proofs.FoundLemmas.{found_trees_keep_limits}
 use Rattle.affc_life.proofs.KeptLemmas.{fitting_rows}
@@ -83,7 +83,7 @@ module _ (program : Program) (has : HasNest program) (named : NamesArrays progra
   limits : KeepLimits (nest_of program) trees
   limits = found_trees_keep_limits (nest_of program) trees found
 
-  pub seats : AreSeated (nest_of program) k.reader k.leaf k.of_leaf.writer
+  pub seats : StandBeside (nest_of program) k.reader k.leaf k.of_leaf.writer
   seats = seated nest nested trees limits walk c k
 
   -- its tree and its leaf
@@ -106,7 +106,7 @@ module _ (program : Program) (has : HasNest program) (named : NamesArrays progra
 
   pub columns_few : c.system.columns ≤ 28
   columns_few =
-      sum c.system.columns k.leaf.columns (length nest.params) (length k.reader.loops) (length k.leaf.divisions) (divisions_of k.tree) (length k.of_leaf.writer.loops) (ap (λ (d : Clash). d.system.columns) k.of_leaf.is) seats.path.count
+      sum c.system.columns k.leaf.columns (length nest.params) (length k.reader.loops) (length k.leaf.divisions) (divisions_of k.tree) (length k.of_leaf.writer.loops) (ap (λ (d : Clash). d.system.columns) k.of_leaf.is) (at_its_leaf nest nested trees limits walk c k).path.count
       (params_few nest k.reader k.leaf k.of_leaf.writer seats) (reader_few nest k.reader k.leaf k.of_leaf.writer seats) small.divisions_few within.few (writer_few nest k.reader k.leaf k.of_leaf.writer seats)
     where
       sum : (n c m l d v w : ℕ) → n ≡ c + w → c ≡ (m + l) + d → m ≤ 4 → l ≤ 6 → d ≤ v → v ≤ 12 → w ≤ 6 → n ≤ 28

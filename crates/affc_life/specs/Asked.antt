@@ -68,6 +68,15 @@ pub record IsLiving (nest : Nest) (e : Entry) : Type 0 where
   pub there : IsIn e nest.entries
   pub alive : IsTrue e.alive
 
+-- rows over the columns of the first part and perhaps more, and the second part beside them
+pub record StandBeside (nest : Nest) (reader : Entry) (leaf : Leaf) (writer : Entry) : Type 0 where
+  pub nested : IsNest nest
+  pub reads : IsLiving nest reader
+  pub first : length nest.params + coordinates reader ≤ leaf.columns
+  pub few : leaf.columns ≤ 410
+  pub rows : All (λ r. length r.coefs ≤ leaf.columns) leaf.rows
+  pub writes : IsLiving nest writer
+
 -- a leaf of a load of the first part, and a store by the second
 pub record AreSeated (nest : Nest) (reader : Entry) (leaf : Leaf) (writer : Entry) : Type 0 where
   pub nested : IsNest nest

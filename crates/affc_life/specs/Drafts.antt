@@ -23,17 +23,6 @@ use Rattle.affc_life.specs.Clashes.{Clash, Walk, clash_columns, named_posed, wri
 abbrev pub draft_by : Draft → (rows : List Affine) → Clash
 draft_by d rows = record { system = record { columns = d.columns; rows = d.front.items ++ rows }; ranges = d.ranges; x = d.x.items; y = d.y.items }
 
--- three lists of rows behind one another, and these behind a front
-abbrev pub chosen_rows : (first second third : List Affine) → List Affine
-chosen_rows first second third = ((first ++ second) ++ third) ++ []
-
-abbrev pub joined_rows : (front first second third : List Affine) → List Affine
-joined_rows front first second third = front ++ chosen_rows first second third
-
--- those with these rows and then one alternative of each of these factors
-abbrev pub drafts_behind : Draft → (rows : List Affine) → (factors : List (List (List Affine))) → List Clash
-drafts_behind d rows factors = map (λ choice. draft_by d (rows ++ choice)) (choices factors)
-
 -- those of a draft
 abbrev pub drafted : Draft → List Clash
 drafted d = map (draft_by d) (choices d.factors)

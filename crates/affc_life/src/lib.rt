@@ -18,4 +18,4 @@ pub mod walk;
 pub use clash::ClashProduct;
 pub use fault::ClashFault;
 pub use product::{Found, found_at};
-pub use walk::{clash_products, clashes};
+pub use walk::clash_products;

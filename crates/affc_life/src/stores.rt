@@ -7,7 +7,7 @@ ghost use Rattle.affc_order.specs.Asked.{IsScheduled};
 ghost use Rattle.affc_order.specs.Placed.{IsPlaced};
 ghost use Rattle.affc_order.specs.Systems.{rows_in};
 ghost use Rattle.affc_quast.specs.SeenLeaves.{leaf_seen};
-ghost use Rattle.affc_life.specs.Asked.{AreSeated};
+ghost use Rattle.affc_life.specs.Asked.{AreSeated, StandBeside};
 ghost use Rattle.affc_life.specs.Clashes.{of_reader, of_writer, front_rows, clashes_of_store};
 ghost use Rattle.affc_life.specs.Drafts.{drafted, instance_named, after_named, before_load, AreScheduled, walk_of};
 
@@ -58,7 +58,7 @@ pub fn front_rows(
     leaf: &Leaf,
     writer: &Entry,
 ) -> Result<Vec<Form>, AllocError>
-    requires { AreSeated nest.now reader.now (leaf_seen leaf.now) writer.now }
+    requires { StandBeside nest.now reader.now (leaf_seen leaf.now) writer.now }
     ensures { IfOk result (λ v. v.items ≡ front_rows nest.now reader.now (leaf_seen leaf.now) writer.now) }
 {
     let params = params_in(nest);
@@ -81,7 +81,7 @@ pub fn loaded(
     leaf: &Leaf,
     writer: &Entry,
 ) -> Result<Vec<Form>, AllocError>
-    requires seated { AreSeated nest.now reader.now (leaf_seen leaf.now) writer.now }
+    requires seated { StandBeside nest.now reader.now (leaf_seen leaf.now) writer.now }
     requires load { IsIn load.now reader.now.accesses }
     ensures { IfOk result (λ v. v.items ≡ map (of_reader nest.now reader.now (leaf_seen leaf.now) writer.now) load.now.subs) }
 {
@@ -100,7 +100,7 @@ pub fn stored(
     writer: &Entry,
     store: &Access,
 ) -> Result<Vec<Form>, AllocError>
-    requires seated { AreSeated nest.now reader.now (leaf_seen leaf.now) writer.now }
+    requires seated { StandBeside nest.now reader.now (leaf_seen leaf.now) writer.now }
     requires store { IsIn store.now writer.now.accesses }
     ensures { IfOk result (λ v. v.items ≡ map (of_writer nest.now reader.now (leaf_seen leaf.now) writer.now) store.now.subs) }
 {
@@ -122,7 +122,7 @@ pub fn stored_after(
     writer: &Entry,
 ) -> Result<Vec<Items<Form>>, AllocError>
     requires asked { IsScheduled nest.now schedule.now }
-    requires seated { AreSeated nest.now reader.now (leaf_seen leaf.now) writer.now }
+    requires seated { StandBeside nest.now reader.now (leaf_seen leaf.now) writer.now }
     requires named { IsPlaced nest.now leaf.now.columns (instance_named named.now) }
     ensures { IfOk result (λ v. v.items ≡ map rows_in (after_named nest.now schedule.now reader.now (leaf_seen leaf.now) (instance_named named.now) writer.now)) }
 {
@@ -152,7 +152,7 @@ pub fn stored_before(
     writer: &Entry,
 ) -> Result<Vec<Items<Form>>, AllocError>
     requires asked { IsScheduled nest.now schedule.now }
-    requires seated { AreSeated nest.now reader.now (leaf_seen leaf.now) writer.now }
+    requires seated { StandBeside nest.now reader.now (leaf_seen leaf.now) writer.now }
     ensures { IfOk result (λ v. v.items ≡ map rows_in (before_load nest.now schedule.now reader.now (leaf_seen leaf.now) writer.now)) }
 {
     let params = params_in(nest);

@@ -21,7 +21,6 @@ use crate::draft::{Draft, Walking};
 use crate::fault::ClashFault;
 use crate::products::products_of;
 use crate::stores::{add_store, coordinates, params_in};
-use crate::systems::add_pairs;
 use affc_ast::tree::ArrayId;
 use affc_nest::{Access, Entry, Nest};
 use affc_quast::leaves::{Leaf, Named, leaves};
@@ -314,32 +313,11 @@ fn live_drafts(
     drafts_of(alloc, &asked, flow)
 }
 
-/// The clash systems of an array: by loads, leaves of their trees, storing parts, the two orders, and the dimension in
-/// which the elements differ.
+/// The clash systems of an array in product form: by loads, leaves of their trees, storing parts, the two orders, and the
+/// dimension in which the elements differ.
 ///
 /// `x` is the element that is loaded and `y` the one that is stored between. The columns of a system are the parameters,
 /// the load's iterators, the quotients of its leaf and the store's iterators.
-pub fn clashes(
-    alloc: Global,
-    nest: &Nest,
-    flow: &Flow,
-    schedule: &Schedule,
-    array: ArrayId,
-) -> Result<Vec<PairSystem>, ClashFault>
-    requires scheduled { IsScheduled nest.now schedule.now }
-    requires trees { KeepLimits nest.now (trees_of flow.now) }
-    ensures ok { IfOk result (λ systems. map clash_of systems.items ≡ clashes nest.now (trees_of flow.now) schedule.now array.0) }
-    ensures fits { IfOk result (λ systems. ¬ (AnyLarge (clashes nest.now (trees_of flow.now) schedule.now array.0))) }
-    ensures large { IfErr result (λ e. e ≡ ClashFault.Large → AnyLarge (clashes nest.now (trees_of flow.now) schedule.now array.0)) }
-{
-    let drafts = live_drafts(alloc, nest, flow, schedule, array)?;
-    let mut systems = Vec::new(alloc);
-    add_pairs(alloc, drafts.as_slice(), &mut systems)?;
-    Ok(systems)
-}
-
-/// The clash systems of an array in product form, by loads, leaves of their trees and storing parts: those of `clashes`, in
-/// its order.
 pub fn clash_products(
     alloc: Global,
     nest: &Nest,

@@ -1,7 +1,6 @@
 -- Choices by their numbers: one of the tallest, and one in which a given row stands.
-use Rattle.std.proofs.Common.{◌≡◌, ℕ, zero, suc, List, [], ◌∷◌, refl, arith}
+use Rattle.std.proofs.Common.{◌≡◌, ℕ, List}
 use Rattle.std.specs.Prelude.{Some, slice_get}
-use Rattle.affc_products.specs.Products.{tallest}
 
 -- an element with its number
 pub record Pick {X : Type 0} (P : X → Type 0) (xs : List X) : Type 0 where

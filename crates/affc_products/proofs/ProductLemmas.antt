@@ -1,7 +1,15 @@
 -- What the choices of products are.
-use Rattle.std.proofs.Common.{◌≡◌, List, [], ◌∷◌, ◌++◌, map, flat_map, refl, sym, ap, ◌∙◌}
+use Rattle.std.proofs.Common.{zero, suc, ◌≡◌, ℕ, List, [], ◌∷◌, ◌++◌, map, flat_map, Some, refl, sym, ap, subst, ◌∙◌}
+use Rattle.std.specs.Prelude.{slice_get}
+use Rattle.std.specs.List.{All}
+use Rattle.std.proofs.lemmas.List.Elements.{All-head, All-tail}
 use Rattle.affc_rows.specs.Forms.{Affine}
-use Rattle.affc_products.specs.Products.{choices}
+use Rattle.affc_system.specs.Systems.{Rows}
+use Rattle.affc_products.specs.Blocks.{AnyPast}
+use Rattle.affc_products.specs.Groups.{group_systems}
+use Rattle.affc_products.specs.Parts.{IsWithin}
+use Rattle.affc_products.specs.Products.{choices, product}
+use Rattle.affc_products.specs.declared.group.Group.{Group}
 
 nil_right : {A : Type 0} (xs : List A) → xs ++ [] ≡ xs
 nil_right [] = refl
@@ -36,7 +44,7 @@ flat_flat : {A B C : Type 0} (f : B → List C) (g : A → List B) (xs : List A)
 flat_flat f g [] = refl
 flat_flat f g (x ∷ xs) = flat_over f (g x) (flat_map g xs) ∙ ap (λ ys. flat_map f (g x) ++ ys) (flat_flat f g xs)
 
-flat_after : {A B C : Type 0} (f : B → List C) (g : A → B) (xs : List A) → flat_map f (map g xs) ≡ flat_map (λ x. f (g x)) xs
+pub flat_after : {A B C : Type 0} (f : B → List C) (g : A → B) (xs : List A) → flat_map f (map g xs) ≡ flat_map (λ x. f (g x)) xs
 flat_after f g [] = refl
 flat_after f g (x ∷ xs) = ap (λ ys. f (g x) ++ ys) (flat_after f g xs)
 
@@ -79,3 +87,24 @@ choices_with_last (us ∷ fs) ts =
 pub choices_without_last : (fs : List (List (List Affine))) → choices (fs ++ ([] ∷ []) ∷ []) ≡ choices fs
 choices_without_last [] = refl
 choices_without_last (us ∷ fs) = ap (λ cs. flat_map (λ u. map (λ v. u ++ v) cs) us) (choices_without_last fs)
+
+pub without_last : (columns : ℕ) (front : List Affine) (fs : List (List (List Affine))) → product columns front (fs ++ ([] ∷ []) ∷ []) ≡ product columns front fs
+without_last columns front fs = ap (map (λ rows. record { columns = columns; rows = front ++ rows })) (choices_without_last fs)
+
+-- ---- Groups
+
+-- the questions of a group as those of a block without rows in its tails
+pub untailed : (g : Group) (front : List Affine) (factors : List (List (List Affine))) (tails : List (List Affine)) → front ≡ g.front → factors ≡ g.factors → tails ≡ [] ∷ []
+    → product g.columns front (factors ++ tails ∷ []) ≡ group_systems g
+untailed g front factors tails e f t =
+    ap (λ rows. product g.columns rows (factors ++ tails ∷ [])) e ∙ ap (λ fs. product g.columns g.front (fs ++ tails ∷ [])) f
+    ∙ ap (λ ts. product g.columns g.front (g.factors ++ ts ∷ [])) t ∙ without_last g.columns g.front g.factors
+
+within_at : (qs : List Rows) (n : ℕ) (q : Rows) → slice_get qs n ≡ Some q → All IsWithin qs → IsWithin q
+within_at [] n q e h = absurd (cc)
+within_at (p ∷ ps) zero q e h = let same : q ≡ p = cc in subst IsWithin (sym same) (All-head IsWithin p ps h)
+within_at (p ∷ ps) (suc n) q e h = within_at ps n q e (All-tail IsWithin p ps h)
+
+-- where all keep the limits none passes them
+pub none_past : (qs : List Rows) → All IsWithin qs → AnyPast qs → ⊥
+none_past qs h a = a.past (within_at qs a.number a.question a.there h)

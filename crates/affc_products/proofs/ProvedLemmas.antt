@@ -41,14 +41,14 @@ fails_count (q ∷ qs) (p ∷ ps) (suc n) h = let e = fails_count qs ps n h.1 in
 
 -- ---- A list of questions for each of several items
 
-flat_one : {X : Type 0} (g : X → List Rows) (x : X) → flat_map g (x ∷ []) ≡ g x
-flat_one g x = append_none (g x)
+flat_one : {X Y : Type 0} (g : X → List Y) (x : X) → flat_map g (x ∷ []) ≡ g x
+flat_one {X} {Y} g x = append_none (g x)
   where
-    append_none : (qs : List Rows) → qs ++ [] ≡ qs
+    append_none : (qs : List Y) → qs ++ [] ≡ qs
     append_none [] = refl
     append_none (q ∷ qs) = ap (λ l. q ∷ l) (append_none qs)
 
-pub flat_more : {X : Type 0} (g : X → List Rows) (xs : List X) (i : ℕ) (d : X) → i < length xs → flat_map g (take (i + 1) xs) ≡ flat_map g (take i xs) ++ g (get_or xs i d)
+pub flat_more : {X Y : Type 0} (g : X → List Y) (xs : List X) (i : ℕ) (d : X) → i < length xs → flat_map g (take (i + 1) xs) ≡ flat_map g (take i xs) ++ g (get_or xs i d)
 flat_more g xs i d l =
     ap (flat_map g) (take_more xs i d l) ∙ flat_map-append g (take i xs) (get_or xs i d ∷ []) ∙ ap (λ r. flat_map g (take i xs) ++ r) (flat_one g (get_or xs i d))
 

@@ -11,7 +11,7 @@ pub mod step;
 mod walk;
 
 pub use block::Block;
-pub use group::Group;
+pub use group::{Group, no_tail};
 pub use product::product_fits;
 pub use question::is_proof;
 pub use step::Step;

@@ -28,10 +28,10 @@ use Rattle.affc_sched.proofs.LegalLemmas.{entry_at}
 use Rattle.affc_sched.proofs.PairLemmas.{stands_in, subs_sides, all_from}
 use Rattle.affc_sched.proofs.WidthLemmas.{domain_wide}
 use Rattle.affc_quast.specs.Leaves.{Leaf, padded}
-use Rattle.affc_life.specs.Asked.{IsLiving, AreSeated}
+use Rattle.affc_life.specs.Asked.{IsLiving, IsPath, StandBeside}
 use Rattle.affc_life.specs.Clashes.{of_reader, of_writer}
 use Rattle.affc_life.proofs.LightLemmas.{all_padded}
-use Rattle.affc_life.proofs.SeatedLemmas.{leaf_few, path_first, its_columns, load_subscripts, store_subscripts}
+use Rattle.affc_life.proofs.SeatedLemmas.{its_columns, at_leaf, load_subscripts, store_subscripts}
 use Rattle.affc_life.proofs.SubscriptLemmas.{subscripts_wide}
 use Rattle.affc_flow.specs.Asked.{writers_of}
 use Rattle.affc_flow.specs.Questions.{Writer}
@@ -67,8 +67,8 @@ all_in nest entries is = subst (All (λ e. IsIn e nest.entries)) (sym is) (all_f
 -- ---- A leaf
 
 module _ (nest : Nest) (reader : Entry) (load : Access) (leaf : Leaf) (is : IsLeafOf nest reader load leaf) where
-  pub seated : (v : Entry) → IsLiving nest v → AreSeated nest reader leaf v
-  seated v l = record { nested = is.nested; reads = is.reads; path = is.path; writes = l }
+  pub seated : (v : Entry) → IsLiving nest v → StandBeside nest reader leaf v
+  seated v l = record { nested = is.nested; reads = is.reads; first = is.first; few = is.few; rows = is.rows; writes = l }
 
   pub params_few : length nest.params ≤ 4
   params_few = nest_few nest is.nested
@@ -76,15 +76,9 @@ module _ (nest : Nest) (reader : Entry) (load : Access) (leaf : Leaf) (is : IsLe
   pub loops_few : length reader.loops ≤ 6
   loops_few = few_numbered nest reader is.nested is.reads.there
 
-  pub columns_few : leaf.columns ≤ 410
-  columns_few = leaf_few nest reader leaf reader (seated reader is.reads)
-
-  own_first : length nest.params + length reader.loops ≤ leaf.columns
-  own_first = path_first nest reader leaf reader (seated reader is.reads)
-
   pub own_narrow : All (λ f. length f.coefs ≤ leaf.columns) reader.domain.rows
   own_narrow =
-      All-weaker (λ f. length f.coefs ≡ length nest.params + length reader.loops) (λ f. length f.coefs ≤ leaf.columns) (λ f w. less (length f.coefs) (length nest.params + length reader.loops) own_first w) reader.domain.rows
+      All-weaker (λ f. length f.coefs ≡ length nest.params + length reader.loops) (λ f. length f.coefs ≤ leaf.columns) (λ f w. less (length f.coefs) (length nest.params + length reader.loops) is.first w) reader.domain.rows
       (domain_columns nest is.nested reader is.reads)
     where
       less : (k m : ℕ) → m ≤ leaf.columns → k ≡ m → k ≤ leaf.columns
@@ -93,7 +87,7 @@ module _ (nest : Nest) (reader : Entry) (load : Access) (leaf : Leaf) (is : IsLe
   pub load_wide : All (IsWide leaf.columns) (map (padded leaf.columns) load.subs)
   load_wide =
       all_raised leaf.columns (2 ^ 16) (2 ^ 32) (2 ^ 110) (2 ^ 110) (map (padded leaf.columns) load.subs) (omega arith) (omega arith)
-      (all_padded (length nest.params + length reader.loops) leaf.columns (2 ^ 16) (2 ^ 32) load.subs own_first (subs_sides nest is.nested reader is.reads.there load is.loads))
+      (all_padded (length nest.params + length reader.loops) leaf.columns (2 ^ 16) (2 ^ 32) load.subs is.first (subs_sides nest is.nested reader is.reads.there load is.loads))
 
   pub load_narrow : All (λ f. length f.coefs ≤ leaf.columns) load.subs
   load_narrow = All-weaker (IsSide (length nest.params + length reader.loops)) (λ f. length f.coefs ≤ leaf.columns) (λ f w. less (length f.coefs) w.width) load.subs (subs_sides nest is.nested reader is.reads.there load is.loads)
@@ -102,7 +96,13 @@ module _ (nest : Nest) (reader : Entry) (load : Access) (leaf : Leaf) (is : IsLe
       at_most k m n e h = omega (arith, e, h)
 
       less : (k : ℕ) → k ≡ length nest.params + length reader.loops → k ≤ leaf.columns
-      less k e = at_most k (length nest.params + length reader.loops) leaf.columns e own_first
+      less k e = at_most k (length nest.params + length reader.loops) leaf.columns e is.first
+
+-- a leaf of the load's tree
+pub of_path : (nest : Nest) (reader : Entry) (load : Access) (leaf : Leaf) → IsNest nest → IsLiving nest reader → IsIn load reader.accesses → IsPath nest (length nest.params + length reader.loops) leaf → IsLeafOf nest reader load leaf
+of_path nest reader load leaf n reads loads path =
+    let b = at_leaf nest reader leaf reader (record { nested = n; reads = reads; path = path; writes = reads }) in
+    record { nested = n; reads = reads; loads = loads; first = b.first; few = b.few; rows = b.rows; named = path.named }
 
 -- ---- The instance that is named
 

@@ -1,5 +1,5 @@
--- The systems that the code lists are those of the leaf's questions.
-use Rattle.std.proofs.Common.{◌≡◌, ℕ, zero, suc, ℤ, Bool, true, false, if◌then◌else◌, IsTrue, List, [], ◌∷◌, ◌++◌, map, flat_map, Option, Some, None, refl, sym, ap, subst, ◌∙◌, inl, inr}
+-- The questions that the code lists are those of the leaf.
+use Rattle.std.proofs.Common.{◌≡◌, ℕ, zero, suc, ℤ, Bool, true, false, if◌then◌else◌, IsTrue, List, [], ◌∷◌, ◌++◌, map, flat_map, Option, Some, None, refl, sym, ap, ap₂, subst, ◌∙◌, inl, inr}
 use Rattle.std.specs.Prelude.{nat_eq, slice_get, IfSome}
 use Rattle.std.proofs.lemmas.Option.{same_Some}
 use Rattle.affc_rows.specs.Forms.{Affine}
@@ -17,23 +17,20 @@ use Rattle.affc_nest.specs.Parts.{statement_of}
 use Rattle.affc_order.specs.Posed.{Posed, form_at}
 use Rattle.affc_order.specs.Systems.{source_order, rows_in}
 use Rattle.affc_sched.specs.Questions.{equal_rows}
-use Rattle.affc_quast.specs.Leaves.{Leaf, padded, negated}
+use Rattle.affc_quast.specs.Leaves.{Leaf, padded, negated, path_ranges}
 use Rattle.affc_flow.specs.Asked.{writers_of}
-use Rattle.affc_flow.specs.Questions as asks
+use Rattle.affc_flow.specs.Questions as flow
 use Rattle.affc_flow.specs.Questions.{Question, Writer, poses, is_temporary, store_of_entry, writer_if, writers}
-use Rattle.affc_products.specs.declared.group.Group.{Group}
-use Rattle.affc_questions.specs.Listed.{systems_of, behind, sides, joined, first_posed, negations, own_path, over_path, own_columns, images, late_lists, over_beside, earlier_systems, between_systems, all_earlier, all_between, named_systems, found_systems, input_systems, systems_for}
 use Rattle.affc_products.specs.Groups.{group_systems}
+use Rattle.affc_products.specs.Products.{choices, product}
+use Rattle.affc_questions.specs.declared.ranged.Ranged.{Ranged}
+use Rattle.affc_questions.specs.Listed.{asked, in_ranges, within, behind, asks, sides, joined, first_posed, negations, own_path, over_path, own_columns, images, astray_lists, late_lists, over_beside, earlier_listed, between_listed, all_earlier, all_between, named_listed, found_listed, input_listed, listed_for}
 
 -- ---- Maps
 
-map_two : {A B C D : Type 0} (f : B → C) (g : A → B) (h : D → C) (k : A → D) → ((x : A) → f (g x) ≡ h (k x)) → (xs : List A) → map f (map g xs) ≡ map h (map k xs)
-map_two f g h k e [] = refl
-map_two f g h k e (x ∷ xs) = ap (λ y. y ∷ map f (map g xs)) (e x) ∙ ap (λ ys. h (k x) ∷ ys) (map_two f g h k e xs)
-
-map_three : {A B C D E : Type 0} (f : B → C) (g : A → B) (h : D → C) (k : E → D) (l : A → E) → ((x : A) → f (g x) ≡ h (k (l x))) → (xs : List A) → map f (map g xs) ≡ map h (map k (map l xs))
-map_three f g h k l e [] = refl
-map_three f g h k l e (x ∷ xs) = ap (λ y. y ∷ map f (map g xs)) (e x) ∙ ap (λ ys. h (k (l x)) ∷ ys) (map_three f g h k l e xs)
+map_over : {A B C : Type 0} (f : B → C) (g : A → B) (h : A → C) → ((x : A) → f (g x) ≡ h x) → (xs : List A) → map f (map g xs) ≡ map h xs
+map_over f g h e [] = refl
+map_over f g h e (x ∷ xs) = ap (λ y. y ∷ map f (map g xs)) (e x) ∙ ap (λ ys. h x ∷ ys) (map_over f g h e xs)
 
 map_flat : {A B C : Type 0} (f : B → C) (g : A → List B) (h : A → List C) → ((x : A) → map f (g x) ≡ h x) → (xs : List A) → map f (flat_map g xs) ≡ flat_map h xs
 map_flat f g h e [] = refl
@@ -45,16 +42,23 @@ flat_append f (x ∷ xs) ys = ap (λ zs. f x ++ zs) (flat_append f xs ys) ∙ sy
 
 -- ---- Groups
 
--- the systems of one group more
-pub group_more : (gs : List Group) (g : Group) → flat_map group_systems (gs ++ g ∷ []) ≡ flat_map group_systems gs ++ group_systems g
-group_more gs g = flat_append group_systems gs (g ∷ []) ∙ ap (λ zs. flat_map group_systems gs ++ zs) (append_nil (group_systems g))
+-- the questions of one group more
+pub asked_more : (old new : List Ranged) (r : Ranged) → new ≡ old ++ r ∷ [] → flat_map asked new ≡ flat_map asked old ++ asked r
+asked_more old new r e = ap (flat_map asked) e ∙ flat_append asked old (r ∷ []) ∙ ap (λ zs. flat_map asked old ++ zs) (append_nil (asked r))
+
+-- where these are the choices of its factors
+pub asked_as : (columns : ℕ) (front : List Affine) (ranges : List (ℤ × ℤ)) (factors : List (List (List Affine))) (lists : List (List Affine)) → choices factors ≡ lists
+    → map (λ s. record { system = s; ranges = ranges }) (product columns front factors) ≡ map (asks columns front ranges) lists
+asked_as columns front ranges factors lists e =
+    ap (λ us. map (λ s. record { system = s; ranges = ranges }) (map (behind columns front) us)) e ∙ map_over (λ (s : Rows). record { system = s; ranges = ranges }) (behind columns front) (asks columns front ranges) (λ u. refl) lists
+
+pub asked_in : (ranges : List (ℤ × ℤ)) (rs : List Ranged) → flat_map (in_ranges ranges) rs ≡ map (within ranges) (flat_map asked rs)
+asked_in ranges rs = sym (map_flat (within ranges) asked (in_ranges ranges) (λ (r : Ranged). map_over (within ranges) (λ (s : Rows). record { system = s; ranges = r.behind }) (λ (s : Rows). record { system = s; ranges = ranges ++ r.behind }) (λ s. refl) (group_systems r.group)) rs)
 
 -- those of two lists behind one front, and others behind them
-pub lists_made : (B : List Affine → Rows) (old first new others : List Rows) (ones twos lists : List (List Affine)) → lists ≡ ones ++ twos → first ≡ old ++ map B lists → new ≡ first ++ others
-    → new ≡ old ++ (map B ones ++ (map B twos ++ others))
-lists_made B old first new others ones twos lists i d e =
-    e ∙ ap (λ s. s ++ others) (d ∙ ap (λ ls. old ++ map B ls) i ∙ ap (λ s. old ++ s) (map_append B ones twos))
-    ∙ append_assoc old (map B ones ++ map B twos) others ∙ ap (λ s. old ++ s) (append_assoc (map B ones) (map B twos) others)
+pub lists_made : {T : Type 0} (B : List Affine → T) (old first new others : List T) (ones twos lists : List (List Affine)) → lists ≡ ones ++ twos → first ≡ old ++ map B lists → new ≡ first ++ others
+    → new ≡ old ++ (map B (ones ++ twos) ++ others)
+lists_made B old first new others ones twos lists i d e = e ∙ ap (λ s. s ++ others) (d ∙ ap (λ ls. old ++ map B ls) i) ∙ append_assoc old (map B (ones ++ twos)) others
 
 -- ---- The first part that is named
 
@@ -132,105 +136,120 @@ stores_among array (e ∷ es) v i =
 pub store_here : (array : ℕ) (e : Entry) (y : Access) → writers_of array e ≡ (e, y) ∷ [] → IsIn y e.accesses
 store_here array e y h = (stores_of array e (e, y) (subst (IsIn (e, y)) (sym h) (inl refl))).among
 
--- ---- The same systems
+-- ---- The same questions
 
 module _ (nest : Nest) (reader : Entry) (load : Access) (ranges : List (ℤ × ℤ)) (leaf : Leaf) where
-  abbrev system_of : Question → Rows
-  system_of q = q.system
+  -- in the ranges of the leaf's columns
+  abbrev inside : List Question → List Question
+  inside qs = map (within (path_ranges ranges leaf.divisions)) qs
 
-  earlier_same : (v : Entry) (y : Access) → systems_of (asks.earlier_questions nest reader load ranges leaf v y) ≡ earlier_systems nest reader load leaf v y
+  abbrev alone : List Affine → Question
+  alone = flow.here nest reader load ranges leaf
+
+  over_same : (lists : List (List Affine)) → inside (over_path reader leaf lists) ≡ map alone lists
+  over_same =
+      map_over (within (path_ranges ranges leaf.divisions)) (asks leaf.columns (own_path reader leaf) []) alone (λ rows i. record { system = behind leaf.columns (own_path reader leaf) rows; ranges = append_nil (path_ranges ranges leaf.divisions) i })
+
+  beside_same : (v : Entry) (y : Access) (lists : List (List Affine)) → inside (over_beside nest reader load leaf v y lists) ≡ map (flow.beside nest reader load ranges leaf v y) lists
+  beside_same v y =
+      map_over (within (path_ranges ranges leaf.divisions)) (asks (flow.beside_columns nest reader load [] leaf v y) (flow.beside_rows nest reader load [] leaf v y) v.ranges) (flow.beside nest reader load ranges leaf v y) (λ rows. refl)
+
+  earlier_same : (v : Entry) (y : Access) → inside (earlier_listed nest reader load leaf v y) ≡ flow.earlier_questions nest reader load ranges leaf v y
   earlier_same v y =
-      map_two system_of (λ (u : Rows). asks.beside nest reader load ranges leaf v y u.rows) (behind (asks.beside_columns nest reader load [] leaf v y) (asks.beside_rows nest reader load [] leaf v y)) rows_in (λ u. refl)
-      (asks.before_load nest reader load ranges leaf v y)
+      let before = flow.before_load nest reader load ranges leaf v y in
+      beside_same v y (map rows_in before) ∙ map_over (flow.beside nest reader load ranges leaf v y) rows_in (λ (u : Rows). flow.beside nest reader load ranges leaf v y u.rows) (λ u. refl) before
 
-  between_same : (v : Entry) (y : Access) (a : Posed) → systems_of (asks.between_questions nest reader load ranges leaf v y a) ≡ between_systems nest reader load leaf v y a
-  between_same v y a = over (asks.after_named nest reader load ranges leaf v y a)
+  between_same : (v : Entry) (y : Access) (a : Posed) → inside (between_listed nest reader load leaf v y a) ≡ flow.between_questions nest reader load ranges leaf v y a
+  between_same v y a = beside_same v y (joined (map rows_in after) (map rows_in before)) ∙ each after
     where
+      after : List Rows
+      after = flow.after_named nest reader load ranges leaf v y a
+
       before : List Rows
-      before = asks.before_load nest reader load ranges leaf v y
+      before = flow.before_load nest reader load ranges leaf v y
 
-      over : (os : List Rows) → systems_of (flat_map (λ (o : Rows). map (λ (u : Rows). asks.beside nest reader load ranges leaf v y (o.rows ++ u.rows)) before) os) ≡ over_beside nest reader load leaf v y (joined (map rows_in os) (map rows_in before))
-      over [] = refl
-      over (o ∷ os) =
-          map_append system_of (map (λ (u : Rows). asks.beside nest reader load ranges leaf v y (o.rows ++ u.rows)) before) (flat_map (λ (o : Rows). map (λ (u : Rows). asks.beside nest reader load ranges leaf v y (o.rows ++ u.rows)) before) os)
-          ∙ ap (λ zs. zs ++ systems_of (flat_map (λ (o : Rows). map (λ (u : Rows). asks.beside nest reader load ranges leaf v y (o.rows ++ u.rows)) before) os))
-          (map_three system_of (λ (u : Rows). asks.beside nest reader load ranges leaf v y (o.rows ++ u.rows)) (behind (asks.beside_columns nest reader load [] leaf v y) (asks.beside_rows nest reader load [] leaf v y)) (λ (u : List Affine). o.rows ++ u) rows_in (λ u. refl) before)
-          ∙ ap (λ zs. over_beside nest reader load leaf v y (map (λ (u : List Affine). o.rows ++ u) (map rows_in before)) ++ zs) (over os)
-          ∙ sym (map_append (behind (asks.beside_columns nest reader load [] leaf v y) (asks.beside_rows nest reader load [] leaf v y)) (map (λ (u : List Affine). o.rows ++ u) (map rows_in before)) (joined (map rows_in os) (map rows_in before)))
+      each : (os : List Rows) → map (flow.beside nest reader load ranges leaf v y) (joined (map rows_in os) (map rows_in before)) ≡ flat_map (λ (o : Rows). map (λ (u : Rows). flow.beside nest reader load ranges leaf v y (o.rows ++ u.rows)) before) os
+      each [] = refl
+      each (o ∷ os) =
+          let B = flow.beside nest reader load ranges leaf v y in
+          let more : List Affine → List Affine = λ u. o.rows ++ u in
+          map_append B (map more (map rows_in before)) (joined (map rows_in os) (map rows_in before))
+          ∙ ap (λ zs. zs ++ map B (joined (map rows_in os) (map rows_in before)))
+          (map_over B more (λ u. B (o.rows ++ u)) (λ u. refl) (map rows_in before) ∙ map_over (λ u. B (o.rows ++ u)) rows_in (λ (u : Rows). B (o.rows ++ u.rows)) (λ u. refl) before)
+          ∙ ap (λ zs. map (λ (u : Rows). B (o.rows ++ u.rows)) before ++ zs) (each os)
 
-  all_earlier_same : systems_of (flat_map (λ (v : Writer). asks.earlier_questions nest reader load ranges leaf v.0 v.1) (writers nest load.array.0)) ≡ all_earlier nest reader load leaf nest.entries
+  all_earlier_same : inside (all_earlier nest reader load leaf nest.entries) ≡ flat_map (λ (v : Writer). flow.earlier_questions nest reader load ranges leaf v.0 v.1) (writers nest load.array.0)
   all_earlier_same =
-      map_flat system_of (λ (v : Writer). asks.earlier_questions nest reader load ranges leaf v.0 v.1) (λ (v : Writer). earlier_systems nest reader load leaf v.0 v.1) (λ (v : Writer). earlier_same v.0 v.1) (writers nest load.array.0)
+      map_flat (within (path_ranges ranges leaf.divisions)) (λ (v : Writer). earlier_listed nest reader load leaf v.0 v.1) (λ (v : Writer). flow.earlier_questions nest reader load ranges leaf v.0 v.1) (λ (v : Writer). earlier_same v.0 v.1)
+      (writers nest load.array.0)
 
-  all_between_same : (a : Posed) → systems_of (flat_map (λ (v : Writer). asks.between_questions nest reader load ranges leaf v.0 v.1 a) (writers nest load.array.0)) ≡ all_between nest reader load leaf a nest.entries
+  all_between_same : (a : Posed) → inside (all_between nest reader load leaf a nest.entries) ≡ flat_map (λ (v : Writer). flow.between_questions nest reader load ranges leaf v.0 v.1 a) (writers nest load.array.0)
   all_between_same a =
-      map_flat system_of (λ (v : Writer). asks.between_questions nest reader load ranges leaf v.0 v.1 a) (λ (v : Writer). between_systems nest reader load leaf v.0 v.1 a) (λ (v : Writer). between_same v.0 v.1 a) (writers nest load.array.0)
+      map_flat (within (path_ranges ranges leaf.divisions)) (λ (v : Writer). between_listed nest reader load leaf v.0 v.1 a) (λ (v : Writer). flow.between_questions nest reader load ranges leaf v.0 v.1 a) (λ (v : Writer). between_same v.0 v.1 a)
+      (writers nest load.array.0)
 
-  input_same : systems_of (asks.input_questions nest reader load ranges leaf) ≡ input_systems nest reader load leaf
+  input_same : inside (input_listed nest reader load leaf) ≡ flow.input_questions nest reader load ranges leaf
   input_same = chosen (is_temporary nest load.array.0)
     where
-      chosen : (t : Bool) → systems_of (if t then asks.here nest reader load ranges leaf [] ∷ [] else flat_map (λ (v : Writer). asks.earlier_questions nest reader load ranges leaf v.0 v.1) (writers nest load.array.0))
-          ≡ (if t then over_path reader leaf ([] ∷ []) else all_earlier nest reader load leaf nest.entries)
-      chosen true = refl
+      chosen : (t : Bool) → inside (if t then over_path reader leaf ([] ∷ []) else all_earlier nest reader load leaf nest.entries)
+          ≡ (if t then alone [] ∷ [] else flat_map (λ (v : Writer). flow.earlier_questions nest reader load ranges leaf v.0 v.1) (writers nest load.array.0))
+      chosen true = over_same ([] ∷ [])
       chosen false = all_earlier_same
 
   -- ---- Where an instance is named
 
   module _ (a : Posed) (w : Entry) (z : Access) where
-    outside_same : systems_of (asks.outside_questions nest reader load ranges leaf a w z) ≡ over_path reader leaf (negations (map (form_at leaf.columns (images nest leaf.columns a.iterators)) w.domain.rows))
-    outside_same =
-        map_three system_of (λ r. asks.here nest reader load ranges leaf (negated (asks.of_named nest reader load ranges leaf a w z r) ∷ [])) (behind leaf.columns (own_path reader leaf)) (λ (f : Affine). negated f ∷ [])
-        (form_at leaf.columns (images nest leaf.columns a.iterators)) (λ r. refl) w.domain.rows
+    outside_same : (rows : List Affine) → map alone (negations (map (form_at leaf.columns (images nest leaf.columns a.iterators)) rows)) ≡ map (λ r. alone (negated (flow.of_named nest reader load ranges leaf a w z r) ∷ [])) rows
+    outside_same [] = refl
+    outside_same (r ∷ rows) = ap (λ qs. alone (negated (flow.of_named nest reader load ranges leaf a w z r) ∷ []) ∷ qs) (outside_same rows)
 
-    apart_same : (fs gs : List Affine) → systems_of (asks.apart_questions nest reader load ranges leaf a w z fs gs) ≡ over_path reader leaf (sides fs gs)
+    apart_same : (fs gs : List Affine) → map alone (sides fs gs) ≡ flow.apart_questions nest reader load ranges leaf a w z fs gs
     apart_same [] gs = refl
     apart_same (f ∷ fs) [] = refl
-    apart_same (f ∷ fs) (g ∷ gs) = ap (λ qs. behind leaf.columns (own_path reader leaf) (compare_rows Greater f g) ∷ behind leaf.columns (own_path reader leaf) (compare_rows Less f g) ∷ qs) (apart_same fs gs)
+    apart_same (f ∷ fs) (g ∷ gs) = ap (λ qs. alone (compare_rows Greater f g) ∷ alone (compare_rows Less f g) ∷ qs) (apart_same fs gs)
 
-    late_same : systems_of (asks.not_earlier_questions nest reader load ranges leaf a w z) ≡ over_path reader leaf (late_lists nest reader leaf.columns a)
+    late_same : map alone (late_lists nest reader leaf.columns a) ≡ flow.not_earlier_questions nest reader load ranges leaf a w z
     late_same =
         let own : List Affine = own_columns nest reader leaf.columns in
         let order : List Rows = source_order nest leaf.columns (record { part = reader.part; iterators = own }) a in
-        map_append system_of (map (λ (o : Rows). asks.here nest reader load ranges leaf o.rows) order) (if nat_eq reader.statement (statement_of nest a.part) then asks.here nest reader load ranges leaf (equal_rows own a.iterators) ∷ [] else [])
-        ∙ ap (λ zs. zs ++ systems_of (if nat_eq reader.statement (statement_of nest a.part) then asks.here nest reader load ranges leaf (equal_rows own a.iterators) ∷ [] else []))
-        (map_two system_of (λ (o : Rows). asks.here nest reader load ranges leaf o.rows) (behind leaf.columns (own_path reader leaf)) rows_in (λ o. refl) order)
-        ∙ ap (λ zs. over_path reader leaf (map rows_in order) ++ zs) (same (nat_eq reader.statement (statement_of nest a.part)))
-        ∙ sym (map_append (behind leaf.columns (own_path reader leaf)) (map rows_in order) (if nat_eq reader.statement (statement_of nest a.part) then equal_rows own a.iterators ∷ [] else []))
+        map_append alone (map rows_in order) (if nat_eq reader.statement (statement_of nest a.part) then equal_rows own a.iterators ∷ [] else [])
+        ∙ ap₂ (λ xs ys. xs ++ ys) (map_over alone rows_in (λ (o : Rows). alone o.rows) (λ o. refl) order) (same (nat_eq reader.statement (statement_of nest a.part)))
       where
-        same : (t : Bool) → systems_of (if t then asks.here nest reader load ranges leaf (equal_rows (own_columns nest reader leaf.columns) a.iterators) ∷ [] else [])
-            ≡ over_path reader leaf (if t then equal_rows (own_columns nest reader leaf.columns) a.iterators ∷ [] else [])
+        same : (t : Bool) → map alone (if t then equal_rows (own_columns nest reader leaf.columns) a.iterators ∷ [] else []) ≡ (if t then alone (equal_rows (own_columns nest reader leaf.columns) a.iterators) ∷ [] else [])
         same true = refl
         same false = refl
 
-    named_same : systems_of (asks.named_questions nest reader load ranges leaf a w z) ≡ named_systems nest reader load leaf a w z
+    named_same : inside (named_listed nest reader load leaf a w z) ≡ flow.named_questions nest reader load ranges leaf a w z
     named_same =
         let F : Affine → Affine = form_at leaf.columns (images nest leaf.columns a.iterators) in
         let gs : List Affine = map (padded leaf.columns) load.subs in
-        let one = asks.outside_questions nest reader load ranges leaf a w z in
-        let two = asks.apart_questions nest reader load ranges leaf a w z (map F z.subs) gs in
-        let three = asks.not_earlier_questions nest reader load ranges leaf a w z in
-        let four = flat_map (λ (v : Writer). asks.between_questions nest reader load ranges leaf v.0 v.1 a) (writers nest load.array.0) in
-        let last : systems_of (three ++ four) ≡ over_path reader leaf (late_lists nest reader leaf.columns a) ++ all_between nest reader load leaf a nest.entries =
-        map_append system_of three four ∙ ap (λ zs. zs ++ systems_of four) late_same ∙ ap (λ zs. over_path reader leaf (late_lists nest reader leaf.columns a) ++ zs) (all_between_same a) in
-        let P = over_path reader leaf (negations (map F w.domain.rows)) in
-        let Q = over_path reader leaf (sides (map F z.subs) gs) in
-        let R = over_path reader leaf (late_lists nest reader leaf.columns a) ++ all_between nest reader load leaf a nest.entries in
-        map_append system_of one (two ++ (three ++ four)) ∙ ap (λ zs. zs ++ systems_of (two ++ (three ++ four))) outside_same
-        ∙ ap (λ zs. P ++ zs) (map_append system_of two (three ++ four) ∙ ap (λ zs. zs ++ systems_of (three ++ four)) (apart_same (map F z.subs) gs) ∙ ap (λ zs. Q ++ zs) last)
-        ∙ sym (append_assoc P Q R) ∙ ap (λ zs. zs ++ R) (sym (map_append (behind leaf.columns (own_path reader leaf)) (negations (map F w.domain.rows)) (sides (map F z.subs) gs)))
+        let one = flow.outside_questions nest reader load ranges leaf a w z in
+        let two = flow.apart_questions nest reader load ranges leaf a w z (map F z.subs) gs in
+        let three = flow.not_earlier_questions nest reader load ranges leaf a w z in
+        let four = flat_map (λ (v : Writer). flow.between_questions nest reader load ranges leaf v.0 v.1 a) (writers nest load.array.0) in
+        let astray = astray_lists nest load leaf.columns a.iterators w z in
+        let late = late_lists nest reader leaf.columns a in
+        let pair : inside (over_path reader leaf (astray ++ late)) ≡ (one ++ two) ++ three =
+        over_same (astray ++ late) ∙ map_append alone astray late
+        ∙ ap₂ (λ xs ys. xs ++ ys) (map_append alone (negations (map F w.domain.rows)) (sides (map F z.subs) gs) ∙ ap₂ (λ xs ys. xs ++ ys) (outside_same w.domain.rows) (apart_same (map F z.subs) gs)) late_same in
+        map_append (within (path_ranges ranges leaf.divisions)) (over_path reader leaf (astray ++ late)) (all_between nest reader load leaf a nest.entries)
+        ∙ ap₂ (λ xs ys. xs ++ ys) pair (all_between_same a) ∙ append_assoc (one ++ two) three four ∙ append_assoc one two (three ++ four)
 
-  among_same : (a : Posed) (ws : List Writer) → systems_of (asks.questions_among nest reader load ranges leaf a ws) ≡ found_systems nest reader load leaf a (first_posed a ws)
-  among_same a [] = refl
+  among_same : (a : Posed) (ws : List Writer) → inside (found_listed nest reader load leaf a (first_posed a ws)) ≡ flow.questions_among nest reader load ranges leaf a ws
+  among_same a [] = over_same ([] ∷ [])
   among_same a (w ∷ ws) = chosen (poses a w.0) (among_same a ws)
     where
-      chosen : (t : Bool) → systems_of (asks.questions_among nest reader load ranges leaf a ws) ≡ found_systems nest reader load leaf a (first_posed a ws) → systems_of (if t then asks.named_questions nest reader load ranges leaf a w.0 w.1 else asks.questions_among nest reader load ranges leaf a ws) ≡ found_systems nest reader load leaf a (if t then Some w else first_posed a ws)
+      chosen : (t : Bool) → inside (found_listed nest reader load leaf a (first_posed a ws)) ≡ flow.questions_among nest reader load ranges leaf a ws
+          → inside (found_listed nest reader load leaf a (if t then Some w else first_posed a ws)) ≡ (if t then flow.named_questions nest reader load ranges leaf a w.0 w.1 else flow.questions_among nest reader load ranges leaf a ws)
       chosen true rest = named_same a w.0 w.1
       chosen false rest = rest
 
-  pub systems_same : (o : Option Posed) → systems_of (asks.questions_for nest reader load ranges leaf o) ≡ systems_for nest reader load leaf o
-  systems_same None = input_same
-  systems_same (Some a) = among_same a (writers nest load.array.0)
+  listed_same : (o : Option Posed) → inside (listed_for nest reader load leaf o) ≡ flow.questions_for nest reader load ranges leaf o
+  listed_same None = input_same
+  listed_same (Some a) = among_same a (writers nest load.array.0)
 
   -- all of them, behind none
-  pub leaf_made : (o : Option Posed) (none out : List Rows) → leaf.named ≡ o → none ≡ [] → out ≡ none ++ systems_for nest reader load leaf o → out ≡ systems_of (asks.leaf_questions nest reader load ranges leaf)
-  leaf_made o none out e n h = h ∙ (ap (λ zs. zs ++ systems_for nest reader load leaf o) n ∙ (ap (systems_for nest reader load leaf) (sym e) ∙ sym (systems_same leaf.named)))
+  pub leaf_made : (o : Option Posed) (none out : List Ranged) → leaf.named ≡ o → none ≡ [] → flat_map asked out ≡ flat_map asked none ++ listed_for nest reader load leaf o
+      → flat_map (in_ranges (path_ranges ranges leaf.divisions)) out ≡ flow.leaf_questions nest reader load ranges leaf
+  leaf_made o none out e n h =
+      asked_in (path_ranges ranges leaf.divisions) out ∙ ap inside (h ∙ ap (λ rs. flat_map asked rs ++ listed_for nest reader load leaf o) n) ∙ listed_same o ∙ ap (flow.questions_for nest reader load ranges leaf) (sym e)

@@ -41,7 +41,7 @@ use Rattle.affc_quast.specs.Leaves.{Leaf, padded, negated, leaves_of}
 use Rattle.affc_quast.specs.Limits.{FitsForm, narrow}
 use Rattle.affc_quast.specs.Sources.{loads_in, tree_of}
 use Rattle.affc_quast.specs.Trees.{Tree, depth_of, divisions_of}
-use Rattle.affc_life.specs.Asked.{KeepLimits, IsLiving, IsPath, AreSeated}
+use Rattle.affc_life.specs.Asked.{KeepLimits, IsLiving, IsPath, StandBeside}
 use Rattle.affc_life.proofs.CountLemmas.{order_count}
 use Rattle.affc_life.proofs.DomainLemmas.{domain_fits}
 use Rattle.affc_life.proofs.FoundLeafLemmas.{IsSmall, leaf_small}
@@ -49,7 +49,7 @@ use Rattle.affc_life.proofs.FoundLemmas.{found_trees_keep_limits}
 use Rattle.affc_life.proofs.LeafLemmas.{path_of}
 use Rattle.affc_life.proofs.LightLemmas.{all_padded, all_spread}
 use Rattle.affc_life.proofs.RowLemmas.{order_all}
-use Rattle.affc_life.proofs.SeatedLemmas.{path_first, params_first, leaf_first}
+use Rattle.affc_life.proofs.SeatedLemmas.{params_first, leaf_first}
 use Rattle.affc_life.proofs.SizeLemmas.{few_subscripts}
 use Rattle.affc_life.proofs.SubscriptLemmas.{are_subscripts}
 use Rattle.affc_flow.specs.Questions.{Question, Writer, is_temporary, store_of_entry, writer_if, writers, poses, here, beside, beside_rows, before_load, after_named, earlier_questions, between_questions, outside_questions, apart_questions, not_earlier_questions, named_questions, questions_among, input_questions, questions_for, leaf_questions, questions_of_load, questions_of_loads}
@@ -59,7 +59,7 @@ use Rattle.affc_questions.specs.Listed.{behind, own_path}
 use Rattle.affc_products.specs.Parts.{IsWithin}
 use Rattle.affc_questions.specs.Sizes.{IsMild}
 use Rattle.affc_questions.proofs.DistanceLemmas.{equal_fit}
-use Rattle.affc_questions.proofs.LeafLemmas.{seated, params_few, loops_few, own_narrow, domain_columns}
+use Rattle.affc_questions.proofs.LeafLemmas.{seated, of_path, params_few, loops_few, own_narrow, domain_columns}
 use Rattle.affc_questions.proofs.PosedLemmas.{IsSituated, placed, all_placed, negated_row, less_row, greater_row}
 use Rattle.affc_questions.proofs.SizeLemmas.{gap_row_fits}
 use Rattle.affc_questions.proofs.TightLemmas.{IsTight, domain_tight}
@@ -165,7 +165,7 @@ are_writers nest array v i =
 
 -- ---- The questions of a leaf
 
-module _ (program : Program) (has : HasNest program) (named : NamesArrays program) (reader : Entry) (load : Access) (ranges : List (ℤ × ℤ)) (leaf : Leaf) (is : IsLeafOf (nest_of program) reader load leaf) (d n : ℕ) (small : IsSmall d n leaf)
+module _ (program : Program) (has : HasNest program) (named : NamesArrays program) (reader : Entry) (load : Access) (ranges : List (ℤ × ℤ)) (leaf : Leaf) (is : IsLeafOf (nest_of program) reader load leaf) (count : leaf.columns ≡ (length (nest_of program).params + length reader.loops) + length leaf.divisions) (d n : ℕ) (small : IsSmall d n leaf)
     (short : d ≤ 302) (few : n ≤ 12) where
   abbrev nest : Nest
   nest = nest_of program
@@ -174,7 +174,7 @@ module _ (program : Program) (has : HasNest program) (named : NamesArrays progra
   path = reader.domain.rows ++ leaf.rows
 
   columns_few : leaf.columns ≤ 22
-  columns_few = sum leaf.columns (length nest.params) (length reader.loops) (length leaf.divisions) is.path.count (params_few nest reader load leaf is) (loops_few nest reader load leaf is) small.divisions_few
+  columns_few = sum leaf.columns (length nest.params) (length reader.loops) (length leaf.divisions) count (params_few nest reader load leaf is) (loops_few nest reader load leaf is) small.divisions_few
     where
       sum : (c m l k : ℕ) → c ≡ (m + l) + k → m ≤ 4 → l ≤ 6 → k ≤ n → c ≤ 22
       sum c m l k e h g i = omega (arith, e, h, g, i, few)
@@ -189,7 +189,7 @@ module _ (program : Program) (has : HasNest program) (named : NamesArrays progra
   path_fit : (k : ℕ) → leaf.columns ≤ k → All (IsRow k) (map (padded k) path)
   path_fit k h =
       rows_padded k path
-      (All-weaker (λ f. length f.coefs ≤ leaf.columns) (λ f. length f.coefs ≤ k) (λ f w. through (length f.coefs) w) path (All-append (λ f. length f.coefs ≤ leaf.columns) reader.domain.rows leaf.rows (own_narrow nest reader load leaf is) is.path.rows))
+      (All-weaker (λ f. length f.coefs ≤ leaf.columns) (λ f. length f.coefs ≤ k) (λ f w. through (length f.coefs) w) path (All-append (λ f. length f.coefs ≤ leaf.columns) reader.domain.rows leaf.rows (own_narrow nest reader load leaf is) is.rows))
       (All-append FitsRow reader.domain.rows leaf.rows (domain_fits program has reader.part reader (entry_at program has reader is.reads.there) is.reads.alive) small.rows_fit)
     where
       through : (w : ℕ) → w ≤ leaf.columns → w ≤ k
@@ -221,7 +221,7 @@ module _ (program : Program) (has : HasNest program) (named : NamesArrays progra
     abbrev wide : ℕ
     wide = leaf.columns + length v.loops
 
-    seats : AreSeated nest reader leaf v
+    seats : StandBeside nest reader leaf v
     seats = seated nest reader load leaf is v w.writes
 
     loops_few_too : length v.loops ≤ 6
@@ -259,7 +259,7 @@ module _ (program : Program) (has : HasNest program) (named : NamesArrays progra
     read_subscripts : All (IsSubscript wide) read
     read_subscripts =
         all_padded (length nest.params + length reader.loops) wide 65536 16777216 load.subs
-        (through (length nest.params + length reader.loops) leaf.columns wide (path_first nest reader leaf v seats) (leaf_first nest reader leaf v seats)) (are_subscripts nest is.nested reader is.reads.there load is.loads)
+        (through (length nest.params + length reader.loops) leaf.columns wide (is.first) (leaf_first nest reader leaf v seats)) (are_subscripts nest is.nested reader is.reads.there load is.loads)
       where
         through : (a b c : ℕ) → a ≤ b → b ≤ c → a ≤ c
         through a b c h g = omega (arith, h, g)
@@ -382,7 +382,7 @@ module _ (program : Program) (has : HasNest program) (named : NamesArrays progra
           apart_within (map at_named z.subs) (map (padded leaf.columns) load.subs)
           (all_placed leaf.columns m a.iterators (params_few nest reader load leaf is) six small_forms long z.subs
           (All-weaker (IsSubscript (m + length w.loops)) IsTight (subscript_tight (m + length w.loops)) z.subs (are_subscripts nest is.nested w writes.writes.there z writes.stores)))
-          (all_padded (m + length reader.loops) leaf.columns 65536 16777216 load.subs (path_first nest reader leaf reader (seated nest reader load leaf is reader is.reads)) (are_subscripts nest is.nested reader is.reads.there load is.loads)) q i
+          (all_padded (m + length reader.loops) leaf.columns 65536 16777216 load.subs is.first (are_subscripts nest is.nested reader is.reads.there load is.loads)) q i
 
       abbrev own_at : Posed
       own_at = record { part = reader.part; iterators = columns_from leaf.columns (length nest.params) (length reader.loops) }
@@ -453,7 +453,7 @@ module _ (program : Program) (has : HasNest program) (named : NamesArrays progra
     where
       by : (o : Option Posed) → leaf.named ≡ o → IsIn q (questions_for nest reader load ranges leaf o) → IsWithin q.system
       by None e i = input_within q i
-      by (Some a) e i = among_within a (is.path.named a e) (small.named a e) (writers nest load.array.0) (are_writers nest load.array.0) q i
+      by (Some a) e i = among_within a (is.named a e) (small.named a e) (writers nest load.array.0) (are_writers nest load.array.0) q i
 
 -- ---- The trees of all loads
 
@@ -513,7 +513,7 @@ found_trees_pass_no_limit program trees q has named found i =
     let limits : KeepLimits nest trees = found_trees_keep_limits nest trees found in
     let path : IsPath nest columns l.0 = path_of nest columns tree.0 (limits reader.part o.number reader tree.0 there counts tree.1) l.0 l.1 in
     leaf_within program has named reader o.load (nest.params ++ reader.ranges) l.0
-    (record { nested = nested; reads = record { there = e.1; alive = t.0 }; loads = stands_in reader.accesses o.number o.load o.there; path = path }) (depth_of tree.0) (divisions_of tree.0)
+    (of_path nest reader o.load l.0 nested (record { there = e.1; alive = t.0 }) (stands_in reader.accesses o.number o.load o.there) path) path.count (depth_of tree.0) (divisions_of tree.0)
     (leaf_small columns tree.0 tree.2.shaped tree.2.fits l.0 l.1) tree.2.short tree.2.few q l.2
   where
     none : (k : ℕ) → 0 + k ≡ k

@@ -1,5 +1,5 @@
 -- What questions are asked of.
-use Rattle.std.specs.Prelude.{◌≡◌, ℕ, ◌+◌, ◌≤◌, List, length}
+use Rattle.std.specs.Prelude.{◌≡◌, ℕ, ◌+◌, ◌≤◌, List, length, Some}
 use Rattle.std.specs.List.{All}
 use Rattle.affc_rows.specs.Forms.{Affine, HaveColumns}
 use Rattle.affc_system.specs.Pairs.{IsSubscript}
@@ -17,16 +17,19 @@ use Rattle.affc_order.specs.Posed.{Posed}
 use Rattle.affc_quast.specs.Leaves.{Leaf}
 use Rattle.affc_quast.specs.SeenLeaves.{leaf_seen}
 use Rattle.affc_questions.specs.declared.reading.Reading.{Reading}
-use Rattle.affc_life.specs.Asked.{IsLiving, IsPath}
+use Rattle.affc_life.specs.Asked.{IsLiving}
 
 -- ---- Leaves
 
--- a leaf of the tree of a load of a part that can have instances
+-- rows over the columns of a load's part and perhaps more, and an instance over these columns
 pub record IsLeafOf (nest : Nest) (reader : Entry) (load : Access) (leaf : Leaf) : Type 0 where
   pub nested : IsNest nest
   pub reads : IsLiving nest reader
   pub loads : IsIn load reader.accesses
-  pub path : IsPath nest (length nest.params + coordinates reader) leaf
+  pub first : length nest.params + coordinates reader ≤ leaf.columns
+  pub few : leaf.columns ≤ 410
+  pub rows : All (λ r. length r.coefs ≤ leaf.columns) leaf.rows
+  pub named : (a : Posed) → leaf.named ≡ Some a → IsPlaced nest leaf.columns a
 
 abbrev pub IsReading : Reading → Type 0
 IsReading r = IsLeafOf r.nest.now r.reader.now r.load.now (leaf_seen r.leaf.now)

@@ -3,4 +3,3 @@ pub mod Asked
 pub mod Listed
 pub mod Laws
 pub mod Tails
-pub mod legality

@@ -1,5 +1,5 @@
--- The systems of a leaf's questions as the code lists them.
-use Rattle.std.specs.Prelude.{ℕ, nat_eq, if◌then◌else◌, List, [], ◌∷◌, ◌++◌, map, flat_map, length, Option, Some, None}
+-- The questions of a leaf as the code lists them: each in the ranges of its columns behind those of the leaf.
+use Rattle.std.specs.Prelude.{ℕ, ℤ, nat_eq, if◌then◌else◌, List, [], ◌∷◌, ◌++◌, map, flat_map, length, Option, Some, None}
 use Rattle.affc_rows.specs.Forms.{Affine}
 use Rattle.affc_system.specs.Systems.{Rows}
 use Rattle.affc_ast.specs.declared.tree.Rel.TheVariants.{Less, Greater}
@@ -14,17 +14,31 @@ use Rattle.affc_order.specs.Systems.{rows_in, source_order}
 use Rattle.affc_sched.specs.Questions.{equal_rows}
 use Rattle.affc_quast.specs.Leaves.{Leaf, padded, negated}
 use Rattle.affc_flow.specs.Asked.{writers_of}
+use Rattle.affc_products.specs.Groups.{group_systems}
+use Rattle.affc_questions.specs.declared.ranged.Ranged.{Ranged}
 use Rattle.affc_flow.specs.Questions.{Question, Writer, poses, is_temporary, beside_columns, beside_rows, before_load, after_named}
 
--- the questions' systems
-abbrev pub systems_of : List Question → List Rows
-systems_of questions = map (λ q. q.system) questions
+-- the questions of a group
+abbrev pub asked : Ranged → List Question
+asked r = map (λ s. record { system = s; ranges = r.behind }) (group_systems r.group)
+
+-- where the columns of the leaf have these ranges
+abbrev pub in_ranges : List (ℤ × ℤ) → Ranged → List Question
+in_ranges ranges r = map (λ s. record { system = s; ranges = ranges ++ r.behind }) (group_systems r.group)
+
+-- a question where the columns of the leaf have these ranges
+abbrev pub within : List (ℤ × ℤ) → Question → Question
+within ranges q = record { system = q.system; ranges = ranges ++ q.ranges }
 
 -- ---- Lists of rows
 
 -- the system of these rows and those
 abbrev pub behind : (columns : ℕ) → (front rows : List Affine) → Rows
 behind columns front rows = record { columns = columns; rows = front ++ rows }
+
+-- its question, in these ranges
+abbrev pub asks : (columns : ℕ) → (front : List Affine) → (ranges : List (ℤ × ℤ)) → (rows : List Affine) → Question
+asks columns front ranges rows = record { system = behind columns front rows; ranges = ranges }
 
 -- two forms in turn: the first is greater, or less
 abbrev pub sides : (fs gs : List Affine) → List (List Affine)
@@ -50,8 +64,8 @@ negations forms = map (λ f. negated f ∷ []) forms
 abbrev pub own_path : (reader : Entry) → Leaf → List Affine
 own_path reader leaf = map (padded leaf.columns) (reader.domain.rows ++ leaf.rows)
 
-abbrev pub over_path : (reader : Entry) → Leaf → List (List Affine) → List Rows
-over_path reader leaf lists = map (behind leaf.columns (own_path reader leaf)) lists
+abbrev pub over_path : (reader : Entry) → Leaf → List (List Affine) → List Question
+over_path reader leaf lists = map (asks leaf.columns (own_path reader leaf) []) lists
 
 -- the coordinates of the load's part
 abbrev pub own_columns : Nest → (reader : Entry) → (columns : ℕ) → List Affine
@@ -76,8 +90,8 @@ module _ (nest : Nest) (reader : Entry) (load : Access) (leaf : Leaf) where
   -- ---- Parts that store the array
 
   module _ (v : Entry) (y : Access) where
-    abbrev pub over_beside : List (List Affine) → List Rows
-    over_beside lists = map (behind (beside_columns nest reader load [] leaf v y) (beside_rows nest reader load [] leaf v y)) lists
+    abbrev pub over_beside : List (List Affine) → List Question
+    over_beside lists = map (asks (beside_columns nest reader load [] leaf v y) (beside_rows nest reader load [] leaf v y) v.ranges) lists
 
     abbrev pub before_lists : List (List Affine)
     before_lists = map rows_in (before_load nest reader load [] leaf v y)
@@ -85,31 +99,31 @@ module _ (nest : Nest) (reader : Entry) (load : Access) (leaf : Leaf) where
     abbrev pub after_lists : Posed → List (List Affine)
     after_lists a = map rows_in (after_named nest reader load [] leaf v y a)
 
-    abbrev pub earlier_systems : List Rows
-    earlier_systems = over_beside before_lists
+    abbrev pub earlier_listed : List Question
+    earlier_listed = over_beside before_lists
 
-    abbrev pub between_systems : Posed → List Rows
-    between_systems a = over_beside (joined (after_lists a) before_lists)
+    abbrev pub between_listed : Posed → List Question
+    between_listed a = over_beside (joined (after_lists a) before_lists)
 
-  abbrev pub all_earlier : List Entry → List Rows
-  all_earlier entries = flat_map (λ (v : Writer). earlier_systems v.0 v.1) (flat_map (writers_of load.array.0) entries)
+  abbrev pub all_earlier : List Entry → List Question
+  all_earlier entries = flat_map (λ (v : Writer). earlier_listed v.0 v.1) (flat_map (writers_of load.array.0) entries)
 
-  abbrev pub all_between : Posed → List Entry → List Rows
-  all_between a entries = flat_map (λ (v : Writer). between_systems v.0 v.1 a) (flat_map (writers_of load.array.0) entries)
+  abbrev pub all_between : Posed → List Entry → List Question
+  all_between a entries = flat_map (λ (v : Writer). between_listed v.0 v.1 a) (flat_map (writers_of load.array.0) entries)
 
   -- ---- All of them
 
-  abbrev pub named_systems : Posed → Entry → Access → List Rows
-  named_systems a w z =
-      over_path reader leaf (astray_lists nest load leaf.columns a.iterators w z) ++ (over_path reader leaf (late_lists nest reader leaf.columns a) ++ all_between a nest.entries)
+  abbrev pub named_listed : Posed → Entry → Access → List Question
+  named_listed a w z =
+      over_path reader leaf (astray_lists nest load leaf.columns a.iterators w z ++ late_lists nest reader leaf.columns a) ++ all_between a nest.entries
 
-  abbrev pub found_systems : Posed → Option Writer → List Rows
-  found_systems a None = over_path reader leaf ([] ∷ [])
-  found_systems a (Some w) = named_systems a w.0 w.1
+  abbrev pub found_listed : Posed → Option Writer → List Question
+  found_listed a None = over_path reader leaf ([] ∷ [])
+  found_listed a (Some w) = named_listed a w.0 w.1
 
-  abbrev pub input_systems : List Rows
-  input_systems = if is_temporary nest load.array.0 then over_path reader leaf ([] ∷ []) else all_earlier nest.entries
+  abbrev pub input_listed : List Question
+  input_listed = if is_temporary nest load.array.0 then over_path reader leaf ([] ∷ []) else all_earlier nest.entries
 
-  abbrev pub systems_for : Option Posed → List Rows
-  systems_for None = input_systems
-  systems_for (Some a) = found_systems a (first_posed a (flat_map (writers_of load.array.0) nest.entries))
+  abbrev pub listed_for : Option Posed → List Question
+  listed_for None = input_listed
+  listed_for (Some a) = found_listed a (first_posed a (flat_map (writers_of load.array.0) nest.entries))

@@ -8,17 +8,16 @@ ghost use Rattle.affc_quast.specs.SeenLeaves.{leaf_seen};
 ghost use Rattle.affc_order.specs.Placed.{IsPlaced};
 ghost use Rattle.affc_life.specs.Drafts.{instance_named};
 ghost use Rattle.affc_questions.specs.Asked.{IsReading, IsWriter};
-ghost use Rattle.affc_questions.specs.Listed.{earlier_systems, between_systems, all_earlier, all_between};
-ghost use Rattle.affc_products.specs.Groups.{group_systems};
+ghost use Rattle.affc_questions.specs.Listed.{asked, earlier_listed, between_listed, all_earlier, all_between};
 
 use crate::lists::{add_each, add_joined};
+use crate::ranged::Ranged;
 use crate::reading::Reading;
 use crate::rows::add_equals;
 use crate::writer::Writer;
 use affc_flow::store_for;
 use affc_life::stores::{coordinates, front_rows, loaded, stored, stored_after, stored_before};
 use affc_nest::Entry;
-use affc_products::Group;
 use affc_quast::leaves::{Leaf, Named};
 use affc_rows::Form;
 use affc_trace::schedule::Schedule;
@@ -66,17 +65,18 @@ fn add_earlier(
     alloc: Global,
     reading: &Reading<'_>,
     writer: &Writer<'_>,
-    out: &mut Vec<Group>,
+    out: &mut Vec<Ranged>,
 ) -> Result<(), AllocError>
     requires reading { IsReading reading.now }
     requires writer { IsWriter reading.now.nest.now writer.now.entry.now writer.now.store.now }
-    ensures { OnOk result (flat_map group_systems out.new.items ≡ flat_map group_systems out.old.items ++ earlier_systems reading.now.nest.now reading.now.reader.now reading.now.load.now (leaf_seen reading.now.leaf.now) writer.now.entry.now writer.now.store.now) }
+    ensures { OnOk result (flat_map asked out.new.items ≡ flat_map asked out.old.items ++ earlier_listed reading.now.nest.now reading.now.reader.now reading.now.load.now (leaf_seen reading.now.leaf.now) writer.now.entry.now writer.now.store.now) }
 {
     let (nest, reader, leaf) = (reading.nest, reading.reader, reading.leaf);
     let columns = columns_beside(leaf, writer.entry);
     let front = beside_rows(alloc, reading, writer)?;
     let before = stored_before(alloc, nest, &Schedule::Source, reader, leaf, writer.entry)?;
-    add_each(alloc, columns, front, before, out)
+    let ranges = writer.entry.ranges.clone()?;
+    add_each(alloc, columns, front, before, ranges, out)
 }
 
 /// Adds the questions whether an instance of the part is later than the one that is named and earlier than the load.
@@ -85,12 +85,12 @@ fn add_between(
     reading: &Reading<'_>,
     named: &Named,
     writer: &Writer<'_>,
-    out: &mut Vec<Group>,
+    out: &mut Vec<Ranged>,
 ) -> Result<(), AllocError>
     requires reading { IsReading reading.now }
     requires named { IsPlaced reading.now.nest.now reading.now.leaf.now.columns (instance_named named.now) }
     requires writer { IsWriter reading.now.nest.now writer.now.entry.now writer.now.store.now }
-    ensures { OnOk result (flat_map group_systems out.new.items ≡ flat_map group_systems out.old.items ++ between_systems reading.now.nest.now reading.now.reader.now reading.now.load.now (leaf_seen reading.now.leaf.now) writer.now.entry.now writer.now.store.now (instance_named named.now)) }
+    ensures { OnOk result (flat_map asked out.new.items ≡ flat_map asked out.old.items ++ between_listed reading.now.nest.now reading.now.reader.now reading.now.load.now (leaf_seen reading.now.leaf.now) writer.now.entry.now writer.now.store.now (instance_named named.now)) }
 {
     let (nest, reader, leaf) = (reading.nest, reading.reader, reading.leaf);
     let entry = writer.entry;
@@ -98,7 +98,8 @@ fn add_between(
     let front = beside_rows(alloc, reading, writer)?;
     let before = stored_before(alloc, nest, &Schedule::Source, reader, leaf, entry)?;
     let after = stored_after(alloc, nest, &Schedule::Source, reader, leaf, named, entry)?;
-    add_joined(alloc, columns, front, after, before, out)
+    let ranges = entry.ranges.clone()?;
+    add_joined(alloc, columns, front, after, before, ranges, out)
 }
 
 /// Adds those of a part, if it stores the array.
@@ -106,11 +107,11 @@ fn add_earlier_of(
     alloc: Global,
     reading: &Reading<'_>,
     entry: &Entry,
-    out: &mut Vec<Group>,
+    out: &mut Vec<Ranged>,
 ) -> Result<(), AllocError>
     requires reading { IsReading reading.now }
     requires entry { IsIn entry.now reading.now.nest.now.entries }
-    ensures { OnOk result (flat_map group_systems out.new.items ≡ flat_map group_systems out.old.items ++ all_earlier reading.now.nest.now reading.now.reader.now reading.now.load.now (leaf_seen reading.now.leaf.now) (entry.now ∷ [])) }
+    ensures { OnOk result (flat_map asked out.new.items ≡ flat_map asked out.old.items ++ all_earlier reading.now.nest.now reading.now.reader.now reading.now.load.now (leaf_seen reading.now.leaf.now) (entry.now ∷ [])) }
 {
     match store_for(entry, reading.load.array.0) {
         None => Ok(()),
@@ -123,11 +124,11 @@ pub(crate) fn add_all_earlier(
     alloc: Global,
     reading: &Reading<'_>,
     entries: &[Entry],
-    out: &mut Vec<Group>,
+    out: &mut Vec<Ranged>,
 ) -> Result<(), AllocError>
     requires reading { IsReading reading.now }
     requires entries { All (λ e. IsIn e reading.now.nest.now.entries) entries.now }
-    ensures { OnOk result (flat_map group_systems out.new.items ≡ flat_map group_systems out.old.items ++ all_earlier reading.now.nest.now reading.now.reader.now reading.now.load.now (leaf_seen reading.now.leaf.now) entries.now) }
+    ensures { OnOk result (flat_map asked out.new.items ≡ flat_map asked out.old.items ++ all_earlier reading.now.nest.now reading.now.reader.now reading.now.load.now (leaf_seen reading.now.leaf.now) entries.now) }
 {
     match entries {
         [] => Ok(()),
@@ -146,12 +147,12 @@ fn add_between_of(
     reading: &Reading<'_>,
     named: &Named,
     entry: &Entry,
-    out: &mut Vec<Group>,
+    out: &mut Vec<Ranged>,
 ) -> Result<(), AllocError>
     requires reading { IsReading reading.now }
     requires named { IsPlaced reading.now.nest.now reading.now.leaf.now.columns (instance_named named.now) }
     requires entry { IsIn entry.now reading.now.nest.now.entries }
-    ensures { OnOk result (flat_map group_systems out.new.items ≡ flat_map group_systems out.old.items ++ all_between reading.now.nest.now reading.now.reader.now reading.now.load.now (leaf_seen reading.now.leaf.now) (instance_named named.now) (entry.now ∷ [])) }
+    ensures { OnOk result (flat_map asked out.new.items ≡ flat_map asked out.old.items ++ all_between reading.now.nest.now reading.now.reader.now reading.now.load.now (leaf_seen reading.now.leaf.now) (instance_named named.now) (entry.now ∷ [])) }
 {
     match store_for(entry, reading.load.array.0) {
         None => Ok(()),
@@ -166,12 +167,12 @@ pub(crate) fn add_all_between(
     reading: &Reading<'_>,
     named: &Named,
     entries: &[Entry],
-    out: &mut Vec<Group>,
+    out: &mut Vec<Ranged>,
 ) -> Result<(), AllocError>
     requires reading { IsReading reading.now }
     requires named { IsPlaced reading.now.nest.now reading.now.leaf.now.columns (instance_named named.now) }
     requires entries { All (λ e. IsIn e reading.now.nest.now.entries) entries.now }
-    ensures { OnOk result (flat_map group_systems out.new.items ≡ flat_map group_systems out.old.items ++ all_between reading.now.nest.now reading.now.reader.now reading.now.load.now (leaf_seen reading.now.leaf.now) (instance_named named.now) entries.now) }
+    ensures { OnOk result (flat_map asked out.new.items ≡ flat_map asked out.old.items ++ all_between reading.now.nest.now reading.now.reader.now reading.now.load.now (leaf_seen reading.now.leaf.now) (instance_named named.now) entries.now) }
 {
     match entries {
         [] => Ok(()),

@@ -6,10 +6,10 @@ pub mod context;
 pub mod distances;
 pub mod laws;
 pub mod leaf;
-pub mod legality;
 mod lists;
 pub mod long;
 mod named;
+pub mod ranged;
 mod reading;
 mod rows;
 mod writer;
@@ -18,3 +18,4 @@ pub use context::{greater_question, one_system, positive_question, whole_context
 pub use distances::{distance_rows, is_behind, shown_rows};
 pub use leaf::leaf_questions;
 pub use long::Long;
+pub use ranged::Ranged;

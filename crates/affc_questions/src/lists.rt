@@ -3,14 +3,15 @@ ghost use Rattle.std.specs.Prelude.{◌≡◌, ◌++◌, ◌∷◌, [], map, fla
 ghost use Rattle.std.specs.List.{All};
 ghost use Rattle.affc_nest.specs.Domains.{gap_row};
 ghost use Rattle.affc_quast.specs.Leaves.{negated};
-ghost use Rattle.affc_questions.specs.Listed.{behind, sides, joined};
-ghost use Rattle.affc_products.specs.Groups.{group_systems};
+ghost use Rattle.affc_questions.specs.Listed.{asked, asks, sides, joined};
 ghost use Rattle.affc_nest.specs.Wide.{IsWide};
 
+use crate::ranged::Ranged;
 use affc_nest::lists::add_gap_row;
 use affc_products::Group;
 use affc_quast::leaves::negated;
 use affc_rows::Form;
+use affc_system::BoxOf;
 use sqlite_items::Items;
 use std::alloc::{AllocError, Global};
 
@@ -86,22 +87,33 @@ pub(crate) fn add_sides(
     }
 }
 
-/// Adds the question of these rows.
+// ---- Groups.
+
+/// Adds a group.
+#[tactic(auto, using(crate::proofs::ListedLemmas::asked_more))]
+fn add_group(group: Group, behind: BoxOf, out: &mut Vec<Ranged>) -> Result<(), AllocError>
+    ensures { OnOk result (flat_map asked out.new.items ≡ flat_map asked out.old.items ++ asked (record { group = group; behind = behind })) }
+{
+    out.push(Ranged { group, behind })?;
+    Ok(())
+}
+
+/// Adds the question of these rows, over the columns of a leaf.
 pub(crate) fn add_front(
     alloc: Global,
     columns: u32,
     front: Items<Form>,
-    out: &mut Vec<Group>,
+    out: &mut Vec<Ranged>,
 ) -> Result<(), AllocError>
-    ensures { OnOk result (flat_map group_systems out.new.items ≡ flat_map group_systems out.old.items ++ behind columns front [] ∷ []) }
+    ensures { OnOk result (flat_map asked out.new.items ≡ flat_map asked out.old.items ++ asks columns front [] [] ∷ []) }
 {
     let factors = Items::new(alloc);
-    out.push(Group {
+    let group = Group {
         columns,
         front,
         factors,
-    })?;
-    Ok(())
+    };
+    add_group(group, BoxOf::new(alloc), out)
 }
 
 /// Adds the questions of these lists behind these rows.
@@ -110,18 +122,19 @@ pub(crate) fn add_each(
     columns: u32,
     front: Items<Form>,
     lists: Vec<Items<Form>>,
-    out: &mut Vec<Group>,
+    behind: BoxOf,
+    out: &mut Vec<Ranged>,
 ) -> Result<(), AllocError>
-    ensures { OnOk result (flat_map group_systems out.new.items ≡ flat_map group_systems out.old.items ++ map (behind columns front) lists.items) }
+    ensures { OnOk result (flat_map asked out.new.items ≡ flat_map asked out.old.items ++ map (asks columns front behind) lists.items) }
 {
     let mut factors = Items::new(alloc);
     factors.push(Items::from_vec(lists))?;
-    out.push(Group {
+    let group = Group {
         columns,
         front,
         factors,
-    })?;
-    Ok(())
+    };
+    add_group(group, behind, out)
 }
 
 /// Adds the questions of each of the second lists behind each of the first, behind these rows.
@@ -131,17 +144,18 @@ pub(crate) fn add_joined(
     front: Items<Form>,
     firsts: Vec<Items<Form>>,
     seconds: Vec<Items<Form>>,
-    out: &mut Vec<Group>,
+    behind: BoxOf,
+    out: &mut Vec<Ranged>,
 ) -> Result<(), AllocError>
-    ensures { OnOk result (flat_map group_systems out.new.items ≡ flat_map group_systems out.old.items ++ map (behind columns front) (joined firsts.items seconds.items)) }
+    ensures { OnOk result (flat_map asked out.new.items ≡ flat_map asked out.old.items ++ map (asks columns front behind) (joined firsts.items seconds.items)) }
 {
     let mut factors = Items::new(alloc);
     factors.push(Items::from_vec(firsts))?;
     factors.push(Items::from_vec(seconds))?;
-    out.push(Group {
+    let group = Group {
         columns,
         front,
         factors,
-    })?;
-    Ok(())
+    };
+    add_group(group, behind, out)
 }

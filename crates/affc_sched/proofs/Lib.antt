@@ -7,3 +7,5 @@ pub mod ExampleProofs
 pub mod SystemLemmas
 pub mod PairLemmas
 pub mod Lists
+pub mod AddedLemmas
+pub mod GroupLemmas

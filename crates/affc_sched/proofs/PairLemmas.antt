@@ -1,9 +1,8 @@
 -- The systems of two accesses.
-use Rattle.std.proofs.Common.{◌≡◌, ℕ, zero, suc, ◌+◌, ◌*◌, ◌<◌, ◌≤◌, ℤ, IsTrue, List, [], ◌∷◌, ◌++◌, length, map, flat_map, drop, refl, sym, ap, subst, ◌∙◌, inl, inr, arith}
+use Rattle.std.proofs.Common.{◌≡◌, ℕ, zero, suc, ◌+◌, ◌*◌, ◌<◌, ◌≤◌, ℤ, IsTrue, List, [], ◌∷◌, ◌++◌, length, map, flat_map, drop, refl, sym, ap, subst, ◌∙◌, arith}
 use Rattle.std.specs.Prelude.{slice_get, nat_lt, nat_le, ◌&&◌}
 use Rattle.std.specs.List.{All}
 use Rattle.std.proofs.lemmas.Bool.{leb-true}
-use Rattle.std.proofs.lemmas.List.Elements.{All-nil, All-cons}
 use Rattle.std.proofs.lemmas.Option.{slice_get_within}
 use Rattle.affc_rows.specs.Forms.{Affine}
 use Rattle.affc_system.specs.Systems.{Rows}
@@ -42,6 +41,7 @@ use Rattle.affc_order.proofs.CodeLemmas.{is_nest}
 use Rattle.affc_sched.specs.Legality.{IsAsked}
 use Rattle.affc_sched.specs.Questions.{Question, equal_rows, context_count, pair_rows, question, pair_questions}
 use Rattle.affc_sched.proofs.LegalLemmas.{entry_at}
+use Rattle.affc_sched.proofs.Lists.{all_from}
 
 -- ---- Entries
 
@@ -80,10 +80,6 @@ pub columns_of_pair : (nest : Nest) → IsNest nest → (a b : Entry) → IsIn a
 columns_of_pair nest n a b i j =
     ap (λ ls. (length nest.params + length ls) + length b.loops) (sym (stands_in nest n a i).loops)
     ∙ ap (λ ls. (length nest.params + length (loops_of nest a.part)) + length ls) (sym (stands_in nest n b j).loops)
-
-pub all_from : {A : Type 0} (P : A → Type 0) (xs : List A) → ((x : A) → IsIn x xs → P x) → All P xs
-all_from P [] h = All-nil P
-all_from P (x ∷ xs) h = All-cons P x xs (h x (inl refl)) (all_from P xs (λ y i. h y (inr i)))
 
 pub subs_sides : (nest : Nest) → IsNest nest → (e : Entry) → IsIn e nest.entries → (x : Access) → IsIn x e.accesses → All (IsSide (length nest.params + length e.loops)) x.subs
 subs_sides nest n e i x j =
@@ -182,13 +178,3 @@ pair_made nest a b x y ps outer inner own xs ys system system' p o i w u v colum
     ∙ ap (λ fs. whole_pair a.domain.rows nest.params (length a.loops) (length b.loops) (drop (context_count nest) b.domain.rows) fs ys) u
     ∙ ap (λ gs. whole_pair a.domain.rows nest.params (length a.loops) (length b.loops) (drop (context_count nest) b.domain.rows) x.subs gs) v
     ∙ ap (λ k. record { columns = k; rows = pair_rows nest a b x y }) columns
-
-pub all_made : (nest : Nest) (schedule : Schedule) (a b : Entry) (x y : Access) (pair : Rows) (out start : List Rows) (earlier later : List (List Affine))
-    → pair ≡ record { columns = pair_columns nest a.part b.part; rows = pair_rows nest a b x y } → start ≡ []
-    → earlier ≡ map rows_in (source_systems nest a.part b.part) → later ≡ map rows_in (turned_systems nest a.part b.part schedule)
-    → out ≡ start ++ flat_map (λ o. map (λ u. with_rows pair (o ++ u)) later) earlier → out ≡ map (λ q. q.system) (pair_questions nest a b schedule x y)
-all_made nest schedule a b x y pair out start earlier later p s e l made =
-    made ∙ ap (λ xs. xs ++ flat_map (λ o. map (λ u. with_rows pair (o ++ u)) later) earlier) s
-    ∙ ap (λ us. flat_map (λ o. map (λ u. with_rows pair (o ++ u)) us) earlier) l
-    ∙ ap (flat_map (λ o. map (λ u. with_rows pair (o ++ u)) (map rows_in (turned_systems nest a.part b.part schedule)))) e
-    ∙ systems_made nest schedule a b x y pair p

@@ -83,19 +83,27 @@ module _ (nest : Nest) (a b : Entry) where
 
 -- ---- All questions: per part and access, and then per part and access of the other
 
-abbrev pub questions_of : Nest → Schedule → Entry → Touch → Entry → Touch → List Question
-questions_of nest schedule a x b y = if may_depend x y then pair_questions nest a b schedule x.0 y.0 else []
+-- an access of a part
+abbrev pub Use : Type 0
+Use = Entry × Touch
 
-abbrev pub questions_to : Nest → Schedule → Entry → Touch → Entry → List Question
-questions_to nest schedule a x b = if b.alive then flat_map (questions_of nest schedule a x b) (touches b.accesses) else []
+abbrev pub uses_of : Entry → List Use
+uses_of e = if e.alive then map (λ x. (e, x)) (touches e.accesses) else []
 
-abbrev pub questions_with : Nest → Schedule → Entry → Touch → List Question
-questions_with nest schedule a x = flat_map (questions_to nest schedule a x) nest.entries
+abbrev pub uses : Nest → List Use
+uses nest = flat_map uses_of nest.entries
 
-abbrev pub questions_from : Nest → Schedule → Entry → List Question
-questions_from nest schedule a = if a.alive then flat_map (questions_with nest schedule a) (touches a.accesses) else []
+-- both, if the second may depend on the first
+abbrev pub pair_of : (x y : Use) → List (Use × Use)
+pair_of x y = if may_depend x.1 y.1 then (x, y) ∷ [] else []
+
+abbrev pub pairs : Nest → List (Use × Use)
+pairs nest = flat_map (λ x. flat_map (pair_of x) (uses nest)) (uses nest)
+
+abbrev pub questions_on : Nest → Schedule → Use × Use → List Question
+questions_on nest schedule p = pair_questions nest p.0.0 p.1.0 schedule p.0.1.0 p.1.1.0
 
 -- the order of the source is legal
 abbrev pub legality_questions : Nest → Schedule → List Question
 legality_questions nest Source = []
-legality_questions nest (Time components maps) = flat_map (questions_from nest (Time components maps)) nest.entries
+legality_questions nest (Time components maps) = flat_map (questions_on nest (Time components maps)) (pairs nest)

@@ -2,7 +2,11 @@
 #![tactic(auto)]
 
 pub mod examples;
+pub mod groups;
 pub mod laws;
+pub mod pairs;
 pub mod systems;
 
-pub use systems::{pair_rows, pair_systems};
+pub use groups::{legality_groups, pair_group};
+pub use pairs::{Pair, asked_pairs};
+pub use systems::pair_rows;

@@ -1,27 +1,21 @@
 //! Questions as systems.
-ghost use Rattle.std.specs.Prelude.{◌≡◌, ◌+◌, ◌*◌, ◌≤◌, ◌++◌, drop, length, map, flat_map, IsTrue, IfOk, OnOk};
+ghost use Rattle.std.specs.Prelude.{◌≡◌, ◌+◌, ◌*◌, ◌≤◌, ◌++◌, drop, length, map, IsTrue, IfOk, OnOk};
 ghost use Rattle.std.specs.List.{All};
 ghost use Rattle.affc_system.specs.Systems.{IsRow};
 ghost use Rattle.affc_trace.specs.Law.{IsIn};
 ghost use Rattle.affc_nest.specs.Asked.{IsNest};
 ghost use Rattle.affc_nest.specs.Domains.{with_rows};
 ghost use Rattle.affc_nest.specs.Sides.{IsSide};
-ghost use Rattle.affc_order.specs.Placed.{IsOrder};
 ghost use Rattle.affc_order.specs.Spread.{spread};
 ghost use Rattle.affc_order.specs.Systems.{pair_columns};
-ghost use Rattle.affc_sched.specs.Legality.{IsAsked};
-ghost use Rattle.affc_sched.specs.Questions.{equal_rows, context_count, pair_rows, pair_questions};
+ghost use Rattle.affc_sched.specs.Questions.{equal_rows, context_count, pair_rows};
 ghost use Rattle.affc_sched.specs.Spreadable.{IsSpreadable};
 
 use affc_ast::tree::Rel;
-use affc_nest::questions::add_rows;
 use affc_nest::rows::add_compare;
 use affc_nest::{Access, Entry, Nest};
-use affc_order::{source_before, target_after};
 use affc_rows::Form;
 use affc_system::System;
-use affc_trace::schedule::Schedule;
-use sqlite_items::Items;
 use std::alloc::{AllocError, Global};
 
 /// Adds rows, each with so many columns more between and behind.
@@ -114,52 +108,6 @@ fn both_domains(
     Ok(system)
 }
 
-/// Adds the system with the rows of each of these behind, after these rows.
-#[tactic(auto, using(crate::proofs::SystemLemmas::added_twice))]
-fn add_later(
-    pair: &System,
-    earlier: &[Form],
-    later: &[Items<Form>],
-    out: &mut Vec<System>,
-) -> Result<(), AllocError>
-    requires pair { length pair.now.rows ≤ 900 }
-    requires earlier { IsOrder pair.now.columns earlier.now }
-    requires later { All (IsOrder pair.now.columns) later.now }
-    ensures { OnOk result (out.new.items ≡ out.old.items ++ map (λ u. with_rows pair.now (earlier.now ++ u)) later.now) }
-{
-    match later {
-        [] => Ok(()),
-        [order, rest @ ..] => {
-            let mut system = pair.clone()?;
-            add_rows(&mut system, earlier)?;
-            add_rows(&mut system, order.as_slice())?;
-            out.push(system)?;
-            add_later(pair, earlier, rest, out)
-        }
-    }
-}
-
-/// Adds the system with the rows of each of these and of each of those behind.
-fn add_orders(
-    pair: &System,
-    earlier: &[Items<Form>],
-    later: &[Items<Form>],
-    out: &mut Vec<System>,
-) -> Result<(), AllocError>
-    requires pair { length pair.now.rows ≤ 900 }
-    requires earlier { All (IsOrder pair.now.columns) earlier.now }
-    requires later { All (IsOrder pair.now.columns) later.now }
-    ensures { OnOk result (out.new.items ≡ out.old.items ++ flat_map (λ o. map (λ u. with_rows pair.now (o ++ u)) later.now) earlier.now) }
-{
-    match earlier {
-        [] => Ok(()),
-        [order, rest @ ..] => {
-            add_later(pair, order.as_slice(), later, out)?;
-            add_orders(pair, rest, later, out)
-        }
-    }
-}
-
 /// The rows that the questions of two accesses of one array begin with: both instances, and equal subscripts. Over the parameters,
 /// the first's iterators and the second's.
 pub fn pair_rows(
@@ -188,31 +136,4 @@ pub fn pair_rows(
     let (xs, ys) = (x.subs.as_slice(), y.subs.as_slice());
     add_equal(alloc, &mut system, xs, ys, params, outer, inner)?;
     Ok(system)
-}
-
-/// The systems of the questions of two accesses of one array, in order.
-pub fn pair_systems(
-    alloc: Global,
-    nest: &Nest,
-    schedule: &Schedule,
-    a: &Entry,
-    b: &Entry,
-    x: &Access,
-    y: &Access,
-) -> Result<Vec<System>, AllocError>
-    requires asked { IsAsked nest.now schedule.now }
-    requires first { IsIn a.now nest.now.entries }
-    requires second { IsIn b.now nest.now.entries }
-    requires living { IsTrue b.now.alive }
-    requires from { IsIn x.now a.now.accesses }
-    requires to { IsIn y.now b.now.accesses }
-    requires one_array { x.now.array.0 ≡ y.now.array.0 }
-    ensures { IfOk result (λ v. v.items ≡ map (λ q. q.system) (pair_questions nest.now a.now b.now schedule.now x.now y.now)) }
-{
-    let pair = pair_rows(alloc, nest, a, b, x, y)?;
-    let earlier = source_before(alloc, nest, a.part, b.part)?;
-    let later = target_after(alloc, nest, schedule, a.part, b.part)?;
-    let mut systems = Vec::new(alloc);
-    add_orders(&pair, earlier.as_slice(), later.as_slice(), &mut systems)?;
-    Ok(systems)
 }

@@ -13,7 +13,7 @@ use Rattle.affc_conflicts.specs.Questions.{distance, agree_rows, over_columns, d
 use Rattle.affc_products.specs.Parts.{IsWithin}
 use Rattle.affc_products.specs.Products.{choices, product}
 use Rattle.affc_products.specs.Blocks.{AnyPast}
-use Rattle.affc_products.proofs.ProductLemmas.{choices_with_last, choices_without_last}
+use Rattle.affc_products.proofs.ProductLemmas.{choices_with_last}
 use Rattle.affc_life.specs.Products.{systems_in}
 use Rattle.affc_life.specs.declared.clash.ClashProduct.{ClashProduct}
 use Rattle.affc_questions.specs.Asked.{IsAlong}
@@ -44,10 +44,6 @@ pub within_passes : (qs : List Rows) → All IsWithin qs → ¬ (AnyPasses (map 
 within_passes qs h = λ (a : AnyPasses (map Question qs)). a.passes (none_of qs h a.question a.there)
 
 -- ---- Products
-
--- a last factor that adds no rows
-pub without_last : (columns : ℕ) (front : List Affine) (fs : List (List (List Affine))) → product columns front (fs ++ ([] ∷ []) ∷ []) ≡ product columns front fs
-without_last columns front fs = ap (map (λ rows. record { columns = columns; rows = front ++ rows })) (choices_without_last fs)
 
 -- the questions on the distances in the clash systems of a product
 module _ (rows : List Affine) (k : ℕ) (row b : Affine) (p : ClashProduct) where

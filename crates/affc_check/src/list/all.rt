@@ -26,7 +26,7 @@ use affc_certvalue::fold::fold::CertFold;
 use affc_life::{ClashFault, ClashProduct, clash_products};
 use affc_nest::Nest;
 use affc_quast::Flow;
-use affc_questions::legality::legality_groups;
+use affc_sched::legality_groups;
 use affc_trace::schedule::Schedule;
 use sqlite_items::Items;
 use std::alloc::{AllocError, Global};

@@ -5,7 +5,7 @@ use Rattle.affc_domain.proofs.Lists.{length_map}
 use Rattle.affc_quast.specs.Leaves.{path_ranges}
 use Rattle.affc_quast.specs.SeenLeaves.{division_seen, leaf_seen}
 use Rattle.affc_life.specs.Asked.{AreDivisions}
-use Rattle.affc_life.proofs.SeatedLemmas.{start_near, start_long, start_few}
+use Rattle.affc_life.proofs.SeatedLemmas.{start_near, start_long, start_few, at_leaf}
 use Rattle.affc_life.proofs.ranges.clash_ranges.Goals as goal
 
 pub add_quotients-requires-clause-divisions : goal.add_quotients-requires-clause-divisions
@@ -14,7 +14,7 @@ add_quotients-requires-clause-divisions c =
     let start : c.append.new.self ≡ c.args.nest.now.params ++ c.args.reader.now.ranges =
     c.in_ok-append.ensures ∙ ap (λ a. a ++ c.ranges-2.result.now) copy ∙ ap (λ b. c.args.nest.now.params ++ b) c.ranges-2.ensures.ranges in
     subst (λ (rs : List (ℤ × ℤ)). AreDivisions (length rs) (map division_seen c.as_slice.result.now)) (sym start)
-    (subst (λ n. AreDivisions n (map division_seen c.as_slice.result.now)) (sym (start_long c.args.nest.now c.args.reader.now (leaf_seen c.args.leaf.now) c.args.writer.now c.requires))
+    (subst (λ n. AreDivisions n (map division_seen c.as_slice.result.now)) (sym (start_long c.args.nest.now c.args.reader.now (leaf_seen c.args.leaf.now) c.args.writer.now (at_leaf c.args.nest.now c.args.reader.now (leaf_seen c.args.leaf.now) c.args.writer.now c.requires)))
     (subst (λ ds. AreDivisions (length c.args.nest.now.params + length c.args.reader.now.loops) (map division_seen ds)) (sym c.as_slice.ensures) c.requires.path.divisions))
 
 pub add_quotients-requires-clause-near : goal.add_quotients-requires-clause-near
@@ -22,7 +22,7 @@ add_quotients-requires-clause-near c =
     let copy : c.in_ok-ranges.ranges ≡ c.args.nest.now.params = search rules in
     let start : c.append.new.self ≡ c.args.nest.now.params ++ c.args.reader.now.ranges =
     c.in_ok-append.ensures ∙ ap (λ a. a ++ c.ranges-2.result.now) copy ∙ ap (λ b. c.args.nest.now.params ++ b) c.ranges-2.ensures.ranges in
-    subst (All WithinReach) (sym start) (start_near c.args.nest.now c.args.reader.now (leaf_seen c.args.leaf.now) c.args.writer.now c.requires)
+    subst (All WithinReach) (sym start) (start_near c.args.nest.now c.args.reader.now (leaf_seen c.args.leaf.now) c.args.writer.now (at_leaf c.args.nest.now c.args.reader.now (leaf_seen c.args.leaf.now) c.args.writer.now c.requires))
 
 pub add_quotients-requires-clause-few : goal.add_quotients-requires-clause-few
 add_quotients-requires-clause-few c =

@@ -4,28 +4,43 @@ use Rattle.affc_quast.specs.SeenLeaves.{leaf_seen}
 use Rattle.affc_nest.specs.Wide.{IsWide}
 use Rattle.affc_life.specs.Clashes.{differing}
 use Rattle.affc_life.specs.Drafts.{drafted, walk_of, instance_named}
-use Rattle.affc_life.proofs.SeatedLemmas.{writer_few, leaf_few, load_subscripts, store_subscripts, store_made}
+use Rattle.affc_life.proofs.SeatedLemmas.{writer_few, at_leaf, load_subscripts, store_subscripts, store_made}
 use Rattle.affc_life.proofs.ProductLemmas.{draft_more}
 use Rattle.affc_life.proofs.SubscriptLemmas.{subscripts_wide}
 use Rattle.affc_life.proofs.stores.add_store.Goals as goal
 
+pub loaded-requires-clause-seated : goal.loaded-requires-clause-seated
+loaded-requires-clause-seated c = at_leaf c.args.asked.now.nest.now c.args.reader.now (leaf_seen c.args.leaf.now) c.args.writer.now c.requires.seated
+
+pub stored-requires-clause-seated : goal.stored-requires-clause-seated
+stored-requires-clause-seated c = at_leaf c.args.asked.now.nest.now c.args.reader.now (leaf_seen c.args.leaf.now) c.args.writer.now c.requires.seated
+
+pub front_rows-requires : goal.front_rows-requires
+front_rows-requires c = at_leaf c.args.asked.now.nest.now c.args.reader.now (leaf_seen c.args.leaf.now) c.args.writer.now c.requires.seated
+
+pub stored_after-requires-clause-seated : goal.stored_after-requires-clause-seated
+stored_after-requires-clause-seated c = at_leaf c.args.asked.now.nest.now c.args.reader.now (leaf_seen c.args.leaf.now) c.args.writer.now c.requires.seated
+
+pub stored_before-requires-clause-seated : goal.stored_before-requires-clause-seated
+stored_before-requires-clause-seated c = at_leaf c.args.asked.now.nest.now c.args.reader.now (leaf_seen c.args.leaf.now) c.args.writer.now c.requires.seated
+
 pub columns_in-columns-requires-clause-leaf : goal.columns_in-columns-requires-clause-leaf
-columns_in-columns-requires-clause-leaf c = leaf_few c.args.asked.now.nest.now c.args.reader.now (leaf_seen c.args.leaf.now) c.args.writer.now c.requires.seated
+columns_in-columns-requires-clause-leaf c = (at_leaf c.args.asked.now.nest.now c.args.reader.now (leaf_seen c.args.leaf.now) c.args.writer.now c.requires.seated).few
 
 pub columns_in-columns-requires-clause-writer : goal.columns_in-columns-requires-clause-writer
-columns_in-columns-requires-clause-writer c = writer_few c.args.asked.now.nest.now c.args.reader.now (leaf_seen c.args.leaf.now) c.args.writer.now c.requires.seated
+columns_in-columns-requires-clause-writer c = writer_few c.args.asked.now.nest.now c.args.reader.now (leaf_seen c.args.leaf.now) c.args.writer.now (at_leaf c.args.asked.now.nest.now c.args.reader.now (leaf_seen c.args.leaf.now) c.args.writer.now c.requires.seated)
 
 pub factors_between-requires-clause-firsts : goal.factors_between-requires-clause-firsts
 factors_between-requires-clause-firsts c =
     subst (λ k. All (IsWide k) c.as_slice-xs.result.now) (sym c.columns_in-columns.ensures)
     (subst (All (IsWide (c.args.leaf.now.columns + length c.args.writer.now.loops))) (sym (c.as_slice-xs.ensures.value ∙ c.in_ok-x.ensures))
-    (subscripts_wide (c.args.leaf.now.columns + length c.args.writer.now.loops) _ (load_subscripts c.args.asked.now.nest.now c.args.reader.now (leaf_seen c.args.leaf.now) c.args.writer.now c.requires.seated c.args.load.now c.requires.load)))
+    (subscripts_wide (c.args.leaf.now.columns + length c.args.writer.now.loops) _ (load_subscripts c.args.asked.now.nest.now c.args.reader.now (leaf_seen c.args.leaf.now) c.args.writer.now (at_leaf c.args.asked.now.nest.now c.args.reader.now (leaf_seen c.args.leaf.now) c.args.writer.now c.requires.seated) c.args.load.now c.requires.load)))
 
 pub factors_between-requires-clause-seconds : goal.factors_between-requires-clause-seconds
 factors_between-requires-clause-seconds c =
     subst (λ k. All (IsWide k) c.as_slice-ys.result.now) (sym c.columns_in-columns.ensures)
     (subst (All (IsWide (c.args.leaf.now.columns + length c.args.writer.now.loops))) (sym (c.as_slice-ys.ensures.value ∙ c.in_ok-y.ensures))
-    (subscripts_wide (c.args.leaf.now.columns + length c.args.writer.now.loops) _ (store_subscripts c.args.asked.now.nest.now c.args.reader.now (leaf_seen c.args.leaf.now) c.args.writer.now c.requires.seated c.args.store.now c.requires.store)))
+    (subscripts_wide (c.args.leaf.now.columns + length c.args.writer.now.loops) _ (store_subscripts c.args.asked.now.nest.now c.args.reader.now (leaf_seen c.args.leaf.now) c.args.writer.now (at_leaf c.args.asked.now.nest.now c.args.reader.now (leaf_seen c.args.leaf.now) c.args.writer.now c.requires.seated) c.args.store.now c.requires.store)))
 
 pub returns : goal.returns
 returns c =

@@ -1,14 +1,14 @@
 use Rattle.std.proofs.Common.{◌+◌, ◌-◌, ◌≤◌, refl, length, sym, subst}
 use Rattle.std.specs.List.{All}
 use Rattle.affc_quast.specs.SeenLeaves.{leaf_seen}
-use Rattle.affc_life.proofs.SeatedLemmas.{params_few, writer_few, leaf_few, params_first, domain_narrow, leaf_narrow, own_wide, front_made}
+use Rattle.affc_life.proofs.SeatedLemmas.{params_few, writer_few, params_first, domain_narrow, leaf_narrow, own_wide, front_made}
 use Rattle.affc_life.proofs.stores.front_rows.Goals as goal
 
 pub params_in-params-requires : goal.params_in-params-requires
 params_in-params-requires c = params_few c.args.nest.now c.args.reader.now (leaf_seen c.args.leaf.now) c.args.writer.now c.requires
 
 pub columns_in-columns-requires-clause-leaf : goal.columns_in-columns-requires-clause-leaf
-columns_in-columns-requires-clause-leaf c = leaf_few c.args.nest.now c.args.reader.now (leaf_seen c.args.leaf.now) c.args.writer.now c.requires
+columns_in-columns-requires-clause-leaf c = c.requires.few
 
 pub columns_in-columns-requires-clause-writer : goal.columns_in-columns-requires-clause-writer
 columns_in-columns-requires-clause-writer c = writer_few c.args.nest.now c.args.reader.now (leaf_seen c.args.leaf.now) c.args.writer.now c.requires

@@ -1,11 +1,11 @@
 use Rattle.std.proofs.Common.{◌+◌, ◌≤◌, length, sym, subst}
 use Rattle.std.specs.List.{All}
 use Rattle.affc_quast.specs.SeenLeaves.{leaf_seen}
-use Rattle.affc_life.proofs.SeatedLemmas.{writer_few, leaf_few, load_narrow, loaded_made}
+use Rattle.affc_life.proofs.SeatedLemmas.{writer_few, load_narrow, loaded_made}
 use Rattle.affc_life.proofs.stores.loaded.Goals as goal
 
 pub columns_in-columns-requires-clause-leaf : goal.columns_in-columns-requires-clause-leaf
-columns_in-columns-requires-clause-leaf c = leaf_few c.args.nest.now c.args.reader.now (leaf_seen c.args.leaf.now) c.args.writer.now c.requires.seated
+columns_in-columns-requires-clause-leaf c = c.requires.seated.few
 
 pub columns_in-columns-requires-clause-writer : goal.columns_in-columns-requires-clause-writer
 columns_in-columns-requires-clause-writer c = writer_few c.args.nest.now c.args.reader.now (leaf_seen c.args.leaf.now) c.args.writer.now c.requires.seated

@@ -4,7 +4,7 @@ use Rattle.std.specs.List.{All}
 use Rattle.affc_quast.specs.SeenLeaves.{leaf_seen}
 use Rattle.affc_life.specs.Clashes.{named_posed, writer_posed}
 use Rattle.affc_life.specs.Drafts.{instance_named}
-use Rattle.affc_life.proofs.SeatedLemmas.{writer_few, leaf_few, loaded_made, named_narrow, named_forms, writer_forms, writes_are, placed_over, order_made}
+use Rattle.affc_life.proofs.SeatedLemmas.{writer_few, loaded_made, named_narrow, named_forms, writer_forms, writes_are, placed_over, order_made}
 use Rattle.affc_life.proofs.stores.stored_after.Goals as goal
 
 few_more : (first n c l : ℕ) → first ≡ c → n ≡ l → c ≤ 410 → l ≤ 6 → first + n ≤ 1000
@@ -14,7 +14,7 @@ pub coordinates-own-requires : goal.coordinates-own-requires
 coordinates-own-requires c = writer_few c.args.nest.now c.args.reader.now (leaf_seen c.args.leaf.now) c.args.writer.now c.requires.seated
 
 pub columns_in-columns-requires-clause-leaf : goal.columns_in-columns-requires-clause-leaf
-columns_in-columns-requires-clause-leaf c = leaf_few c.args.nest.now c.args.reader.now (leaf_seen c.args.leaf.now) c.args.writer.now c.requires.seated
+columns_in-columns-requires-clause-leaf c = c.requires.seated.few
 
 pub columns_in-columns-requires-clause-writer : goal.columns_in-columns-requires-clause-writer
 columns_in-columns-requires-clause-writer c = writer_few c.args.nest.now c.args.reader.now (leaf_seen c.args.leaf.now) c.args.writer.now c.requires.seated
@@ -26,7 +26,7 @@ add_padded-requires c =
     (named_narrow c.args.nest.now c.args.reader.now (leaf_seen c.args.leaf.now) c.args.writer.now c.requires.seated (instance_named c.args.named.now) c.requires.named))
 
 pub columns_from-requires : goal.columns_from-requires
-columns_from-requires c = few_more c.args.leaf.now.columns c.coordinates-own.result c.args.leaf.now.columns (length c.args.writer.now.loops) (λ i. c.args.leaf.now.columns) c.coordinates-own.ensures (leaf_few c.args.nest.now c.args.reader.now (leaf_seen c.args.leaf.now) c.args.writer.now c.requires.seated) (writer_few c.args.nest.now c.args.reader.now (leaf_seen c.args.leaf.now) c.args.writer.now c.requires.seated)
+columns_from-requires c = few_more c.args.leaf.now.columns c.coordinates-own.result c.args.leaf.now.columns (length c.args.writer.now.loops) (λ i. c.args.leaf.now.columns) c.coordinates-own.ensures (c.requires.seated.few) (writer_few c.args.nest.now c.args.reader.now (leaf_seen c.args.leaf.now) c.args.writer.now c.requires.seated)
 
 pub target_order-requires-clause-first : goal.target_order-requires-clause-first
 target_order-requires-clause-first c =

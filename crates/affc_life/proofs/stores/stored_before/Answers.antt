@@ -2,7 +2,7 @@ use Rattle.std.proofs.Common.{◌≡◌, ◌+◌, ◌≤◌, ℕ, length, arith,
 use Rattle.std.proofs.lemmas.Result.{IfOk-weaker}
 use Rattle.affc_quast.specs.SeenLeaves.{leaf_seen}
 use Rattle.affc_life.specs.Clashes.{reader_posed, writer_posed}
-use Rattle.affc_life.proofs.SeatedLemmas.{params_few, writer_few, reader_few, leaf_few, reader_forms, writer_forms, writes_are, reads_are, placed_over, order_made}
+use Rattle.affc_life.proofs.SeatedLemmas.{params_few, writer_few, reader_few, reader_forms, writer_forms, writes_are, reads_are, placed_over, order_made}
 use Rattle.affc_life.proofs.stores.stored_before.Goals as goal
 
 few_more : (first n c l : ℕ) → first ≡ c → n ≡ l → c ≤ 410 → l ≤ 6 → first + n ≤ 1000
@@ -15,7 +15,7 @@ pub coordinates-own-requires : goal.coordinates-own-requires
 coordinates-own-requires c = writer_few c.args.nest.now c.args.reader.now (leaf_seen c.args.leaf.now) c.args.writer.now c.requires.seated
 
 pub columns_in-columns-requires-clause-leaf : goal.columns_in-columns-requires-clause-leaf
-columns_in-columns-requires-clause-leaf c = leaf_few c.args.nest.now c.args.reader.now (leaf_seen c.args.leaf.now) c.args.writer.now c.requires.seated
+columns_in-columns-requires-clause-leaf c = c.requires.seated.few
 
 pub columns_in-columns-requires-clause-writer : goal.columns_in-columns-requires-clause-writer
 columns_in-columns-requires-clause-writer c = writer_few c.args.nest.now c.args.reader.now (leaf_seen c.args.leaf.now) c.args.writer.now c.requires.seated
@@ -27,7 +27,7 @@ few_first : (first n c l : ℕ) → first ≡ c → n ≡ l → c ≤ 4 → l �
 few_first first n c l e f h g = omega (arith, e, f, h, g)
 
 pub columns_from-requires : goal.columns_from-requires
-columns_from-requires c = few_more c.args.leaf.now.columns c.coordinates-own.result c.args.leaf.now.columns (length c.args.writer.now.loops) (λ i. c.args.leaf.now.columns) c.coordinates-own.ensures (leaf_few c.args.nest.now c.args.reader.now (leaf_seen c.args.leaf.now) c.args.writer.now c.requires.seated) (writer_few c.args.nest.now c.args.reader.now (leaf_seen c.args.leaf.now) c.args.writer.now c.requires.seated)
+columns_from-requires c = few_more c.args.leaf.now.columns c.coordinates-own.result c.args.leaf.now.columns (length c.args.writer.now.loops) (λ i. c.args.leaf.now.columns) c.coordinates-own.ensures (c.requires.seated.few) (writer_few c.args.nest.now c.args.reader.now (leaf_seen c.args.leaf.now) c.args.writer.now c.requires.seated)
 
 pub columns_from-requires-2 : goal.columns_from-requires-2
 columns_from-requires-2 c =

@@ -1,11 +1,11 @@
 use Rattle.std.proofs.Common.{◌∙◌}
 use Rattle.affc_nest.proofs.QuestionProofs.{few_numbered}
 use Rattle.affc_quast.specs.SeenLeaves.{leaf_seen}
-use Rattle.affc_questions.proofs.LeafLemmas.{columns_few, read_wide, written_wide}
+use Rattle.affc_questions.proofs.LeafLemmas.{read_wide, written_wide}
 use Rattle.affc_questions.proofs.beside.beside_rows.Goals as goal
 
 pub columns_beside-columns-requires-clause-leaf : goal.columns_beside-columns-requires-clause-leaf
-columns_beside-columns-requires-clause-leaf c = columns_few c.args.reading.now.nest.now c.args.reading.now.reader.now c.args.reading.now.load.now (leaf_seen c.args.reading.now.leaf.now) c.requires.reading
+columns_beside-columns-requires-clause-leaf c = c.requires.reading.few
 
 pub columns_beside-columns-requires-clause-writer : goal.columns_beside-columns-requires-clause-writer
 columns_beside-columns-requires-clause-writer c = few_numbered c.args.reading.now.nest.now c.args.writer.now.entry.now c.requires.reading.nested c.requires.writer.writes.there

@@ -1,17 +1,15 @@
-use Rattle.std.proofs.Common.{◌≡◌, ◌∷◌, ◌++◌, [], map, flat_map, ap, ◌∙◌}
-use Rattle.affc_products.specs.Products.{product}
+use Rattle.std.proofs.Common.{◌≡◌, ◌∷◌, ◌++◌, [], flat_map, ap, ◌∙◌}
+use Rattle.std.proofs.lemmas.Result.{on_ok_weaker}
+use Rattle.affc_products.specs.Products.{choices}
 use Rattle.affc_products.proofs.ProductLemmas.{choices_of_two}
-use Rattle.affc_questions.specs.Listed.{behind}
-use Rattle.affc_products.specs.Groups.{group_systems}
-use Rattle.affc_questions.proofs.ListedLemmas.{group_more}
+use Rattle.affc_questions.specs.Listed.{asked, joined}
+use Rattle.affc_questions.proofs.ListedLemmas.{asked_as}
 use Rattle.affc_questions.proofs.lists.add_joined.Goals as goal
 
 pub returns : goal.returns
 returns c =
-    let old = flat_map group_systems c.args.out.now.items in
-    let columns = c.args.columns in
-    let front = c.args.front in
     let first : c.push.new.self ≡ c.args.firsts.items ∷ [] = c.in_ok-push.ensures.ok ∙ ap (λ z. z ++ c.from_vec.result ∷ []) c.new-factors.ensures ∙ ap (λ z. z ∷ []) c.from_vec.ensures in
     let is : c.push-2.new.self ≡ c.args.firsts.items ∷ c.args.seconds.items ∷ [] = c.in_ok-push-2.ensures.ok ∙ ap (λ z. z ++ c.from_vec-2.result ∷ []) first ∙ ap (λ z. c.args.firsts.items ∷ z ∷ []) c.from_vec-2.ensures in
-    ap (flat_map group_systems) c.in_ok-push-3.ensures.items ∙ group_more c.args.out.now.items (record { columns = columns; front = front; factors = c.push-2.new.self })
-    ∙ ap (λ fs. old ++ product columns front fs) is ∙ ap (λ us. old ++ map (behind columns front) us) (choices_of_two c.args.firsts.items c.args.seconds.items)
+    on_ok_weaker c.add_group.result
+    (λ e. e ∙ ap (λ qs. flat_map asked c.args.out.now.items ++ qs) (asked_as c.args.columns c.args.front c.args.behind c.push-2.new.self (joined c.args.firsts.items c.args.seconds.items) (ap choices is ∙ choices_of_two c.args.firsts.items c.args.seconds.items)))
+    c.add_group.ensures

@@ -1,5 +1,0 @@
-use Rattle.std.proofs.Common.{length}
-use Rattle.affc_flow.proofs.asking.+add_all_earlier.Given as goal
-
-abbrev pub decreases-add_all_earlier : goal.decreases-add_all_earlier
-decreases-add_all_earlier l = length l.entries.now

@@ -1,5 +1,0 @@
-use Rattle.std.proofs.Common.{length}
-use Rattle.affc_legal.proofs.settling.+settle_all.Given as goal
-
-abbrev pub decreases-settle_all : goal.decreases-settle_all
-decreases-settle_all l = length l.entries.now

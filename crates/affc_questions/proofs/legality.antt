@@ -1,3 +1,0 @@
-pub mod AddedLemmas
-pub mod ProductLemmas
-pub mod PairLemmas

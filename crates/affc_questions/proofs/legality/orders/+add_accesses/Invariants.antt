@@ -1,5 +1,0 @@
-use Rattle.std.proofs.Common.{length}
-use Rattle.affc_questions.proofs.legality.orders.+add_accesses.Given as goal
-
-abbrev pub decreases-add_accesses : goal.decreases-add_accesses
-decreases-add_accesses l = length l.accesses.now
