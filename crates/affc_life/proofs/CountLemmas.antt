@@ -20,30 +20,27 @@ use Rattle.affc_order.specs.Posed.{Posed}
 use Rattle.affc_order.specs.Systems.{lex_systems, loops_of, time_forms, target_order}
 use Rattle.affc_life.specs.Clashes.{apart_rows, differing, between_rows}
 
+none : (n m k : ℕ) → n ≡ m → n ≤ m + 2 * k
+none n m k e = omega (arith, e)
+
+one : (n m k : ℕ) → n ≡ m + 1 → n ≤ m + 2 * suc k
+one n m k e = omega (arith, e)
+
+two : (n l m k : ℕ) → l ≡ m + 2 → n ≤ l + 2 * k → n ≤ m + 2 * suc k
+two n l m k e h = omega (arith, e, h)
+
 -- two rows for each pair that is equal, and at most two for the last
 apart_count : (fs gs rows r : List Affine) → IsIn r (apart_rows fs gs rows) → length r ≤ length rows + 2 * length fs
 apart_count [] gs rows r i = absurd i
 apart_count (f ∷ fs) [] rows r i = absurd i
 apart_count (f ∷ fs) (g ∷ gs) rows r (inl e) = one (length r) (length rows) (length fs) (ap length e ∙ length_append rows (compare_rows Less f g))
-  where
-    one : (n m k : ℕ) → n ≡ m + 1 → n ≤ m + 2 * suc k
-    one n m k e = omega (arith, e)
 apart_count (f ∷ fs) (g ∷ gs) rows r (inr (inl e)) = one (length r) (length rows) (length fs) (ap length e ∙ length_append rows (compare_rows Greater f g))
-  where
-    one : (n m k : ℕ) → n ≡ m + 1 → n ≤ m + 2 * suc k
-    one n m k e = omega (arith, e)
 apart_count (f ∷ fs) (g ∷ gs) rows r (inr (inr i)) =
     two (length r) (length (rows ++ compare_rows Equal f g)) (length rows) (length fs) (length_append rows (compare_rows Equal f g)) (apart_count fs gs (rows ++ compare_rows Equal f g) r i)
-  where
-    two : (n l m k : ℕ) → l ≡ m + 2 → n ≤ l + 2 * k → n ≤ m + 2 * suc k
-    two n l m k e h = omega (arith, e, h)
 
 differing_count : (differ : Bool) (fs gs rows r : List Affine) → IsIn r (differing differ fs gs rows) → length r ≤ length rows + 2 * length fs
 differing_count true fs gs rows r i = apart_count fs gs rows r i
 differing_count false fs gs rows r (inl e) = none (length r) (length rows) (length fs) (ap length e)
-  where
-    none : (n m k : ℕ) → n ≡ m → n ≤ m + 2 * k
-    none n m k e = omega (arith, e)
 differing_count false fs gs rows r (inr x) = absurd x
 
 -- by how many are compared, and by how many there are
@@ -54,24 +51,15 @@ at_tie columns rows false s x = absurd x
 
 lex_count : (columns n : ℕ) (fs gs rows : List Affine) (tie : Bool) (s : Rows) → IsIn s (lex_systems columns n fs gs rows tie) → (length s.rows ≤ length rows + 2 * n) × (length s.rows ≤ length rows + 2 * length fs)
 lex_count columns zero fs gs rows tie s i = let e = at_tie columns rows tie s i in (none (length s.rows) (length rows) 0 e, none (length s.rows) (length rows) (length fs) e)
-  where
-    none : (n m k : ℕ) → n ≡ m → n ≤ m + 2 * k
-    none n m k e = omega (arith, e)
 lex_count columns (suc n) [] gs rows tie s i = absurd i
 lex_count columns (suc n) (f ∷ fs) [] rows tie s i = absurd i
 lex_count columns (suc n) (f ∷ fs) (g ∷ gs) rows tie s (inl e) =
     let l : length s.rows ≡ length rows + 1 = ap (λ (r : Rows). length r.rows) e ∙ length_append rows (compare_rows Less f g) in
     (one (length s.rows) (length rows) n l, one (length s.rows) (length rows) (length fs) l)
-  where
-    one : (n m k : ℕ) → n ≡ m + 1 → n ≤ m + 2 * suc k
-    one n m k e = omega (arith, e)
 lex_count columns (suc n) (f ∷ fs) (g ∷ gs) rows tie s (inr i) =
     let more = lex_count columns n fs gs (rows ++ compare_rows Equal f g) tie s i in
     let l = length_append rows (compare_rows Equal f g) in
     (two (length s.rows) (length (rows ++ compare_rows Equal f g)) (length rows) n l more.0, two (length s.rows) (length (rows ++ compare_rows Equal f g)) (length rows) (length fs) l more.1)
-  where
-    two : (n l m k : ℕ) → l ≡ m + 2 → n ≤ l + 2 * k → n ≤ m + 2 * suc k
-    two n l m k e h = omega (arith, e, h)
 
 -- at most 6 iterators, or 12 components
 pub order_count : (nest : Nest) (columns : ℕ) (schedule : Schedule) (a b : Posed) → IsTrue (within_limits schedule) → length a.iterators ≤ 6 → (s : Rows) → IsIn s (target_order nest schedule columns a b) → length s.rows ≤ 24

@@ -10,7 +10,7 @@ use Rattle.affc_rows.specs.Forms.{Affine}
 use Rattle.affc_trace.specs.Law.{IsIn}
 use Rattle.affc_nest.proofs.DomainLemmas.{from_all}
 use Rattle.affc_life.specs.Clashes.{Clash}
-use Rattle.affc_life.specs.Examples.{form, BlurHasTwelve, BlurHasSix, OthersHaveNone, MiddleClashes, BothOrders, NeverLoaded, chain_front, chain_orders, chain_clash, ChainClashes, OwnStoreIsNone, HalvedClashes, DimensionsInTurn, LastOneIsNoLoad, NoneOfTheDead}
+use Rattle.affc_life.specs.Examples.{form, BlurHasTwelve, BlurHasSix, OthersHaveNone, MiddleClashes, BothOrders, NeverLoaded, AcrossArrays, AcrossOrders, chain_front, chain_orders, chain_clash, ChainClashes, OwnStoreIsNone, HalvedClashes, DimensionsInTurn, LastOneIsNoLoad, NoneOfTheDead}
 
 pub blur_has_twelve : BlurHasTwelve
 unfolding shape-the_row-Ix-0 hidden-the_row-Ix-0 shape-the_row-Val-0 hidden-the_row-Val-0 shape-the_row-Stmt-0 hidden-the_row-Stmt-0 hidden
@@ -39,6 +39,12 @@ both_orders = refl
 
 pub never_loaded : NeverLoaded
 never_loaded = refl
+
+pub across_arrays : AcrossArrays
+across_arrays = refl
+
+pub across_orders : AcrossOrders
+across_orders = refl
 
 pub dimensions_in_turn : DimensionsInTurn
 dimensions_in_turn = (refl, refl)

@@ -4,6 +4,7 @@ use Rattle.std.specs.Prelude.{max, unsigned_abs}
 use Rattle.std.specs.List.{All}
 use Rattle.std.proofs.lemmas.Int.{ints}
 use Rattle.std.proofs.lemmas.List.Elements.{All-nil, All-cons, All-append}
+use Rattle.std.proofs.lemmas.Option.{same_Some}
 use Rattle.affc_rows.specs.Forms.{Affine}
 use Rattle.affc_rows.proofs.SizeLemmas.{number_within, widened_within}
 use Rattle.affc_system.specs.Systems.{FitsRow}
@@ -130,11 +131,8 @@ leaf_small columns (Source s forms) h g l (inl e) =
       rows_few = omega arith;
       rows_fit = All-nil FitsRow;
       divisions_few = omega arith;
-      named = λ a q. subst (λ (b : Posed). All (FitsForm narrow) b.iterators) (same (record { part = s; iterators = forms }) a q) g;
+      named = λ a q. subst (λ (b : Posed). All (FitsForm narrow) b.iterators) (same_Some (record { part = s; iterators = forms }) a q) g;
     })
-  where
-    same : (a b : Posed) → Some a ≡ Some b → a ≡ b
-    same a b e = cc
 leaf_small columns (Source s forms) h g l (inr i) = absurd i
 leaf_small columns Input h g l (inl e) = subst (IsSmall 0 0) (sym e) (record { rows_few = omega arith; rows_fit = All-nil FitsRow; divisions_few = omega arith; named = λ a q. absurd (cc) })
 leaf_small columns Input h g l (inr i) = absurd i

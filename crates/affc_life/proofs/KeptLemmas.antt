@@ -2,7 +2,7 @@
 use Rattle.std.proofs.Common.{◌≡◌, ◌≢◌, ℕ, zero, suc, ◌<◌, ◌≤◌, List, [], ◌∷◌, ◌++◌, length, map, flat_map, get_or, refl, sym, ap, subst, ◌∙◌, ◌⊎◌, inl, inr, arith}
 use Rattle.std.specs.Prelude.{◌↔◌}
 use Rattle.std.specs.List.{All}
-use Rattle.std.proofs.lemmas.List.Elements.{All-nil, All-cons, All-head, All-tail, recursion_from_All}
+use Rattle.std.proofs.lemmas.List.Elements.{All-nil, All-cons, All-head, All-tail, All-weaker, recursion_from_All}
 use Rattle.affc_rows.specs.Forms.{Affine, HaveColumns}
 use Rattle.affc_system.specs.Pairs.{IsSubscript}
 use Rattle.affc_system.specs.Systems.{Rows, FitsRow, IsRow}
@@ -66,10 +66,6 @@ fitting_rows columns (r ∷ rows) w f =
     All-cons (IsRow columns) r rows (record { width = All-head (λ g. length g.coefs ≡ columns) r rows w; fits = All-head FitsRow r rows f })
     (fitting_rows columns rows (All-tail (λ g. length g.coefs ≡ columns) r rows w) (All-tail FitsRow r rows f))
 
-row_fits : (columns : ℕ) (rows : List Affine) → All (IsRow columns) rows → All FitsRow rows
-row_fits columns [] h = All-nil FitsRow
-row_fits columns (r ∷ rows) h = All-cons FitsRow r rows (All-head (IsRow columns) r rows h).fits (row_fits columns rows (All-tail (IsRow columns) r rows h))
-
 not_within : (s : Rows) → HaveColumns s.columns s.rows → (IsWithin s → ⊥) → IsLarge s
 not_within s w n = elim (either s.columns 128) [
   | inr h ↦ inl h
@@ -88,7 +84,7 @@ within_fits s h (inr (inl l)) = more (length s.rows) h.few l
   where
     more : (n : ℕ) → n ≤ 1024 → 1024 < n → ⊥
     more n a b = omega (arith, a, b)
-within_fits s h (inr (inr n)) = n (row_fits s.columns s.rows h.rows)
+within_fits s h (inr (inr n)) = n (All-weaker (IsRow s.columns) FitsRow (λ f r. r.fits) s.rows h.rows)
 
 module _ (d : Draft) where
   abbrev make : List Affine → Rows

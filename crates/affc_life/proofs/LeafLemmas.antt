@@ -2,7 +2,7 @@
 use Rattle.std.proofs.Common.{◌≡◌, ℕ, suc, ◌+◌, ◌^◌, ◌≤◌, List, [], ◌∷◌, length, Some, refl, sym, ap, subst, ◌∙◌, inl, inr, arith}
 use Rattle.std.specs.Prelude.{max}
 use Rattle.std.specs.List.{All}
-use Rattle.std.proofs.lemmas.Option.{slice_get_within}
+use Rattle.std.proofs.lemmas.Option.{slice_get_within, same_Some}
 use Rattle.affc_system.proofs.SystemLemmas.{rows_of}
 use Rattle.affc_trace.specs.Law.{IsIn}
 use Rattle.affc_trace.proofs.Members.{in_map}
@@ -49,11 +49,8 @@ of_tree nest columns (Source s forms) h n g l (inl e) =
     subst (OfTree nest columns (Source s forms)) (sym e) (record {
       few = omega arith;
       divisions = tt;
-      named = λ a q. subst (λ (b : Posed). IsNamed nest b.part b.iterators × All (FitsForm widest) b.iterators) (same (record { part = s; iterators = forms }) a q) (n, g);
+      named = λ a q. subst (λ (b : Posed). IsNamed nest b.part b.iterators × All (FitsForm widest) b.iterators) (same_Some (record { part = s; iterators = forms }) a q) (n, g);
     })
-  where
-    same : (a b : Posed) → Some a ≡ Some b → a ≡ b
-    same a b e = cc
 of_tree nest columns (Source s forms) h n g l (inr i) = absurd i
 of_tree nest columns Input h n g l (inl e) = subst (OfTree nest columns Input) (sym e) (record { few = omega arith; divisions = tt; named = λ a q. absurd (cc) })
 of_tree nest columns Input h n g l (inr i) = absurd i

@@ -1,5 +1,5 @@
 -- Which clash systems there are.
-use Rattle.std.proofs.Common.{◌≡◌, ℕ, ◌+◌, ◌-◌, ◌<◌, Bool, true, false, IsTrue, if◌then◌else◌, List, [], length, flat_map, Option, Some, None, refl, sym, subst, arith}
+use Rattle.std.proofs.Common.{◌≡◌, ℕ, ◌+◌, ◌-◌, ◌<◌, Bool, true, false, IsTrue, if◌then◌else◌, List, [], length, flat_map, Option, Some, None, refl, sym, subst, ◌∙◌, arith}
 use Rattle.std.specs.Prelude.{nat_eq, slice_get}
 use Rattle.std.proofs.lemmas.Bool.{eq-eqb, eqb-true}
 use Rattle.affc_rows.specs.Forms.{Affine}
@@ -24,6 +24,9 @@ in_if false xs a i = absurd i
 to_if : {A : Type 0} (t : Bool) (xs : List A) (a : A) → IsTrue t → IsIn a xs → IsIn a (if t then xs else [])
 to_if true xs a t i = i
 to_if false xs a t i = absurd (cc)
+
+zero_first : (k : ℕ) → k ≡ 0 + k
+zero_first k = omega arith
 
 module _ (nest : Nest) (walk : Walk) (reader : Entry) (load : Access) where
   -- the store of a clash system of this load, and the instance that the leaf names
@@ -119,7 +122,7 @@ module _ (nest : Nest) (trees : List Tree) (walk : Walk) where
       let v = in_if e.alive (flat_map f (numbered_loads 0 e.accesses)) c a.2 in
       let x = in_flat_map f (numbered_loads 0 e.accesses) c v.1 in
       let n = load_at 0 e.accesses x.0 x.1 in
-      let same : n.0 ≡ x.0.0 = zero_first x.0.0 n.0 n.1 in
+      let same : n.0 ≡ x.0.0 = zero_first n.0 ∙ sym n.1 in
       let t = in_if (nat_eq x.0.1.array.0 walk.loaded) (clashes_of_tree nest walk e x.0.1 (tree_of nest trees e.part x.0.0)) c x.2 in
       let o = of_tree e x.0.1 (tree_of nest trees e.part x.0.0) c t.1 in
       record {
@@ -137,9 +140,6 @@ module _ (nest : Nest) (trees : List Tree) (walk : Walk) where
         leaf_in = o.leaf_in;
         of_leaf = o.of_leaf;
       }
-    where
-      zero_first : (n k : ℕ) → n ≡ 0 + k → k ≡ n
-      zero_first n k e = omega (arith, e)
 
   pub in_walk : (c : Clash) → OfWalk c → IsIn c (clashes_of nest trees walk)
   in_walk c k =
@@ -153,9 +153,6 @@ module _ (nest : Nest) (trees : List Tree) (walk : Walk) where
       (to_if e.alive (flat_map f (numbered_loads 0 e.accesses)) c k.alive
       (to_flat_map f (numbered_loads 0 e.accesses) (k.number, k.load) c (at_load 0 e.accesses k.number k.load k.number (zero_first k.number) k.load_there k.counts)
       (to_if (nat_eq k.load.array.0 walk.loaded) (clashes_of_tree nest walk e k.load (tree_of nest trees e.part k.number)) c (eq-eqb k.load.array.0 walk.loaded k.loads) of_tree)))
-    where
-      zero_first : (k : ℕ) → k ≡ 0 + k
-      zero_first k = omega arith
 
 -- ---- Those of live pairs
 

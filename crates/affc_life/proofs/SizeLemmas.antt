@@ -1,8 +1,6 @@
 -- The clash systems of trees that the search gives keep the limits of systems.
-use Rattle.std.proofs.Common.{◌≡◌, ℕ, zero, suc, ◌+◌, ◌-◌, ◌^◌, ◌<◌, ◌≤◌, true, IsTrue, List, [], ◌∷◌, ◌++◌, length, map, drop, refl, sym, ap, subst, ◌∙◌, inl, inr, arith}
-use Rattle.std.specs.Prelude.{slice_get, nat_le, ◌&&◌}
+use Rattle.std.proofs.Common.{◌≡◌, ℕ, ◌+◌, ◌-◌, ◌^◌, ◌<◌, ◌≤◌, true, IsTrue, List, ◌++◌, length, map, drop, refl, sym, ap, subst, ◌∙◌, inl, inr, arith}
 use Rattle.std.specs.List.{All}
-use Rattle.std.proofs.lemmas.Bool.{leb-true}
 use Rattle.std.proofs.lemmas.List.{length-drop}
 use Rattle.std.proofs.lemmas.List.Elements.{All-append, All-drop, All-weaker}
 use Rattle.std.proofs.lemmas.Option.{same_Some}
@@ -10,26 +8,20 @@ use Rattle.affc_rows.specs.Forms.{Affine}
 use Rattle.affc_rows.proofs.SizeLemmas.{widened_within, all_raised}
 use Rattle.affc_system.specs.Systems.{FitsRow, IsRow}
 use Rattle.affc_system.proofs.SystemLemmas.{rows_of, rows_within}
-use Rattle.affc_ast.specs.declared.tree.Decl.{Decl}
 use Rattle.affc_ast.specs.declared.tree.Program.{Program}
-use Rattle.affc_ast.specs.Meaning.{arrays_of}
 use Rattle.affc_trace.specs.declared.schedule.Schedule.{Schedule}
+use Rattle.affc_trace.specs.declared.schedule.Schedule.TheVariants.{Source}
 use Rattle.affc_trace.specs.Law.{IsIn}
 use Rattle.affc_trace.specs.Target.{IsScheduleOf, within_limits}
 use Rattle.affc_trace.proofs.Runs.{length_append}
-use Rattle.affc_domain.specs.Arrays.{declared_arrays}
-use Rattle.affc_domain.specs.Plain.{plain_decls, all_plain}
-use Rattle.affc_domain.specs.Ranges.{number_ranges}
-use Rattle.affc_domain.proofs.Lists.{both_true, length_map}
+use Rattle.affc_domain.proofs.Lists.{length_map}
 use Rattle.affc_nest.specs.Asked.{IsNest}
 use Rattle.affc_nest.specs.declared.nest.Access.{Access}
 use Rattle.affc_nest.specs.declared.nest.Entry.{Entry}
 use Rattle.affc_nest.specs.declared.nest.Nest.{Nest}
 use Rattle.affc_nest.specs.Laws.{HasNest, NamesArrays}
-use Rattle.affc_nest.specs.Nests.{array_of, nest_of}
-use Rattle.affc_nest.specs.Questions.{extents_or_none}
-use Rattle.affc_nest.proofs.AccessLemmas.{plain_append}
-use Rattle.affc_nest.proofs.QuestionLemmas.{as_many, stands_in}
+use Rattle.affc_nest.specs.Nests.{nest_of}
+use Rattle.affc_nest.proofs.QuestionLemmas.{stands_in}
 use Rattle.affc_nest.proofs.QuestionProofs.{domain_small}
 use Rattle.affc_order.specs.Asked.{IsScheduled}
 use Rattle.affc_order.specs.Placed.{IsPlaced}
@@ -38,6 +30,7 @@ use Rattle.affc_order.specs.Systems.{target_order}
 use Rattle.affc_order.proofs.CodeLemmas.{few_loops}
 use Rattle.affc_sched.specs.Questions.{context_count}
 use Rattle.affc_sched.proofs.LegalLemmas.{entry_at}
+use Rattle.affc_sched.proofs.PairLemmas.{few_subs}
 use Rattle.affc_quast.specs.Leaves.{padded}
 use Rattle.affc_quast.specs.Limits.{IsTreeWithin, narrow}
 use Rattle.affc_quast.specs.Trees.{Tree, depth_of, divisions_of}
@@ -59,24 +52,9 @@ use Rattle.affc_life.proofs.SeatedLemmas.{its_rows, params_few, reader_few, writ
 
 -- ---- Dimensions
 
-few_extents : (n : ℕ) (ds : List Decl) (k : ℕ) → IsTrue (plain_decls n ds) → length (extents_or_none (slice_get (map (array_of n) ds) k)) ≤ 4
-few_extents n [] k h = omega arith
-few_extents n (d ∷ ds) zero h =
-    let a = both_true (nat_le (length d.extents) 4) (all_plain n d.extents && plain_decls n ds) h in
-    as_few (length (extents_or_none (slice_get (map (array_of n) (d ∷ ds)) 0))) (length d.extents) (length_map _ d.extents) (leb-true (length d.extents) 4 a.0)
-  where
-    as_few : (m k : ℕ) → m ≡ k → k ≤ 4 → m ≤ 4
-    as_few m k e h = omega (arith, e, h)
-few_extents n (d ∷ ds) (suc k) h =
-    let a = both_true (nat_le (length d.extents) 4) (all_plain n d.extents && plain_decls n ds) h in
-    few_extents n ds k (both_true (all_plain n d.extents) (plain_decls n ds) a.1).1
-
 -- an access of a program has at most four subscripts
 pub few_subscripts : (program : Program) (has : HasNest program) → NamesArrays program → (e : Entry) → IsIn e (nest_of program).entries → (x : Access) → IsIn x e.accesses → length x.subs ≤ 4
-few_subscripts program has named e i x j =
-    let n = length (number_ranges program.params) in
-    subst (λ k. k ≤ 4) (sym (as_many program e.part e named (entry_at program has e i) x j))
-    (few_extents n (declared_arrays program) x.array.0 (plain_append n (arrays_of program.params) program.temps has.plain.arrays has.plain.temps))
+few_subscripts program has named e i x j = few_subs (nest_of program) Source (record { scheduled = record { program = program; has = has; is = refl; fits = tt; slight = refl }; named = named }) e i x j
 
 -- ---- One clash system
 

@@ -27,8 +27,6 @@ steps (alternatives ∷ factors) = suc (length alternatives + steps factors)
 pub in_second : {A : Type 0} (xs ys : List A) (number left : ℕ) → number ≡ length xs + left → slice_get (xs ++ ys) number ≡ slice_get ys left
 in_second xs ys number left e = ap (slice_get (xs ++ ys)) e ∙ slice_right xs ys left
 
--- ---- Choices
-
 -- ---- Products
 
 -- the system of a product with these rows behind the base's

@@ -2,6 +2,7 @@
 use Rattle.std.proofs.Common.{◌≡◌, ℕ, zero, suc, ◌+◌, ◌-◌, ◌<◌, ◌≤◌, Bool, true, false, if◌then◌else◌, List, [], ◌∷◌, ◌++◌, length, map, flat_map, drop, get_or, Some, None, refl, sym, ap, subst, ◌∙◌, arith}
 use Rattle.std.specs.Prelude.{nat_eq, slice_get}
 use Rattle.std.proofs.lemmas.List.{drop-drop, length-drop}
+use Rattle.std.proofs.lemmas.List.Folds.{flat_map-map}
 use Rattle.std.proofs.lemmas.Option.{slice_get_read, slice_get_past}
 use Rattle.affc_rows.specs.Forms.{Affine}
 use Rattle.affc_system.specs.Systems.{Rows}
@@ -47,37 +48,30 @@ each_back P xs ys zs e h = back_of P xs ys (subst (Each P) e h)
 
 -- ---- Orders
 
-flat_mapped : {A B C : Type 0} (g : A → B) (F : B → List C) (xs : List A) → flat_map F (map g xs) ≡ flat_map (λ x. F (g x)) xs
-flat_mapped g F [] = refl
-flat_mapped g F (x ∷ xs) = ap (λ ys. F (g x) ++ ys) (flat_mapped g F xs)
-
 -- the rows of two orders are those of their systems
 pub between_is : (differ : Bool) (front : List Affine) (after before : List Rows) (xs ys : List Affine)
     → flat_map (λ o. flat_map (λ u. differing differ xs ys (front ++ (o ++ u))) (map rows_in before)) (map rows_in after) ≡ between_rows differ front after before xs ys
 between_is differ front after before xs ys =
-    flat_mapped rows_in (λ o. flat_map (λ u. differing differ xs ys (front ++ (o ++ u))) (map rows_in before)) after
+    flat_map-map (λ o. flat_map (λ u. differing differ xs ys (front ++ (o ++ u))) (map rows_in before)) rows_in after
     ∙ flat_same (λ (o : Rows). flat_map (λ u. differing differ xs ys (front ++ (o.rows ++ u))) (map rows_in before)) (λ (o : Rows). flat_map (λ (u : Rows). differing differ xs ys (front ++ (o.rows ++ u.rows))) before)
-    (λ o. flat_mapped rows_in (λ u. differing differ xs ys (front ++ (o.rows ++ u))) before) after
+    (λ o. flat_map-map (λ u. differing differ xs ys (front ++ (o.rows ++ u))) rows_in before) after
 
 -- ---- Loads
 
-pub loads_made : (F : ℕ × Access → List Clash) (accesses rest : List Access) (x : Access) (n m : ℕ) (old first new : List Clash) → accesses ≡ x ∷ rest → 1 ≤ length rest → m ≡ suc n
-    → first ≡ old ++ F (n, x) → new ≡ first ++ flat_map F (numbered_loads m rest) → new ≡ old ++ flat_map F (numbered_loads n accesses)
-loads_made F accesses [] x n m old first new i l k d e = absurd (omega (arith, l))
-loads_made F accesses (y ∷ ys) x n m old first new i l k d e =
-    e ∙ ap (λ j. first ++ flat_map F (numbered_loads j (y ∷ ys))) k ∙ ap (λ s. s ++ flat_map F (numbered_loads (suc n) (y ∷ ys))) d ∙ append_assoc old (F (n, x)) (flat_map F (numbered_loads (suc n) (y ∷ ys)))
+pub loads_made : (F : ℕ × Access → List Clash) (accesses rest : List Access) (x : Access) (n : ℕ) (old first new : List Clash) → accesses ≡ x ∷ rest → 1 ≤ length rest
+    → first ≡ old ++ F (n, x) → new ≡ first ++ flat_map F (numbered_loads (n + 1) rest) → new ≡ old ++ flat_map F (numbered_loads n accesses)
+loads_made F accesses [] x n old first new i l d e = absurd (omega (arith, l))
+loads_made F accesses (y ∷ ys) x n old first new i l d e =
+    e ∙ ap (λ j. first ++ flat_map F (numbered_loads j (y ∷ ys))) (one n) ∙ ap (λ s. s ++ flat_map F (numbered_loads (suc n) (y ∷ ys))) d ∙ append_assoc old (F (n, x)) (flat_map F (numbered_loads (suc n) (y ∷ ys)))
     ∙ ap (λ ys. old ++ flat_map F (numbered_loads n ys)) (sym i)
+  where
+    one : (n : ℕ) → n + 1 ≡ suc n
+    one n = omega arith
 
 -- the next load, and what is behind it
 pub load_there : (whole accesses rest : List Access) (x : Access) (n : ℕ) → accesses ≡ drop n whole → accesses ≡ x ∷ rest → slice_get whole n ≡ Some x
-load_there [] accesses rest x zero d i = absurd (not_empty (sym i ∙ d))
-  where
-    not_empty : x ∷ rest ≡ [] → ⊥
-    not_empty e = absurd (cc)
-load_there [] accesses rest x (suc n) d i = absurd (not_empty (sym i ∙ d))
-  where
-    not_empty : x ∷ rest ≡ [] → ⊥
-    not_empty e = absurd (cc)
+load_there [] accesses rest x zero d i = absurd (cc)
+load_there [] accesses rest x (suc n) d i = absurd (cc)
 load_there (y ∷ ys) accesses rest x zero d i = ap (λ zs. slice_get zs 0) (sym d ∙ i)
 load_there (y ∷ ys) accesses rest x (suc n) d i = load_there ys accesses rest x n d i
 

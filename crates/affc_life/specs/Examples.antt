@@ -9,9 +9,10 @@ use Rattle.affc_nest.specs.Nests.{nest_of}
 use Rattle.affc_nest.specs.declared.nest.Access.{Access}
 use Rattle.affc_nest.specs.declared.nest.Entry.{Entry}
 use Rattle.affc_nest.specs.declared.nest.Nest.{Nest}
+use Rattle.affc_order.specs.Systems.{target_order}
 use Rattle.affc_quast.specs.Trees.{Tree, Test, Div}
 use Rattle.affc_quast.specs.Trees as tree
-use Rattle.affc_life.specs.Clashes.{Clash, apart_rows, numbered_loads, clashes}
+use Rattle.affc_life.specs.Clashes.{Clash, Order, apart_rows, numbered_loads, clashes_of, clashes}
 
 abbrev pub form : List ℤ → ℤ → Affine
 form cs k = record { coefs = cs; constant = k }
@@ -194,6 +195,22 @@ BothOrders = clashes in_turn (tree.Source 0 [] ∷ tree.Source 1 [] ∷ []) Sour
 -- what is stored in B is never loaded
 abbrev pub NeverLoaded : Type 0
 NeverLoaded = clashes in_turn (tree.Source 0 [] ∷ tree.Source 1 [] ∷ []) Source 1 ≡ []
+
+-- of loads of one array and stores of one, which may have equal subscripts
+abbrev walked : (loaded stored : ℕ) → (before : Order) → List Clash
+walked loaded stored before =
+    clashes_of in_turn (tree.Source 0 [] ∷ tree.Source 1 [] ∷ []) (record { loaded = loaded; stored = stored; after = target_order in_turn Source; before = before; differ = false })
+
+abbrev walked_by : (x y : ℤ) → Clash
+walked_by x y = record { system = over 0 []; ranges = []; x = form [] x ∷ []; y = form [] y ∷ [] }
+
+-- B[0] is stored once between A[1] and its load
+abbrev pub AcrossArrays : Type 0
+AcrossArrays = walked 0 1 (target_order in_turn Source) ≡ walked_by (pos 1) (pos 0) ∷ []
+
+-- where the order before loads is the other way round: A[0] is stored once behind a load of A
+abbrev pub AcrossOrders : Type 0
+AcrossOrders = walked 0 0 (λ n a b. target_order in_turn Source n b a) ≡ walked_by (pos 0) (pos 0) ∷ []
 
 -- ---- Which elements differ, and which accesses load
 

@@ -41,17 +41,19 @@ fn add_apart(
     }
 }
 
-/// The factor that says that two lists of forms differ, if they have to.
-pub(crate) fn apart_factor(
+/// The three factors of a draft: these orders, these, and that two lists of forms differ, if they have to.
+pub(crate) fn factors_between(
     alloc: Global,
     columns: u32,
     differ: bool,
+    after: Vec<Items<Form>>,
+    before: Vec<Items<Form>>,
     fs: &[Form],
     gs: &[Form],
-) -> Result<Items<Items<Form>>, AllocError>
+) -> Result<Items<Items<Items<Form>>>, AllocError>
     requires firsts { All (IsWide columns) fs.now }
     requires seconds { All (IsWide columns) gs.now }
-    ensures { IfOk result (λ factor. factor ≡ differing differ fs.now gs.now []) }
+    ensures { IfOk result (λ factors. factors ≡ after.items ∷ before.items ∷ differing differ fs.now gs.now [] ∷ []) }
 {
     let start = Items::new(alloc);
     let mut apart = Items::new(alloc);
@@ -60,18 +62,6 @@ pub(crate) fn apart_factor(
     } else {
         apart.push(start)?;
     }
-    Ok(apart)
-}
-
-/// The three factors of a draft: these orders, these, and this one.
-pub(crate) fn factors_between(
-    alloc: Global,
-    after: Vec<Items<Form>>,
-    before: Vec<Items<Form>>,
-    apart: Items<Items<Form>>,
-) -> Result<Items<Items<Items<Form>>>, AllocError>
-    ensures { IfOk result (λ factors. factors ≡ after.items ∷ before.items ∷ apart ∷ []) }
-{
     let mut factors = Items::new(alloc);
     factors.push(Items::from_vec(after))?;
     factors.push(Items::from_vec(before))?;

@@ -1,5 +1,5 @@
 //! The clash systems of small programs, as laws: `specs/Examples.antt` says each, with rows that were found by hand.
-ghost use Rattle.affc_life.specs.Examples.{BlurHasTwelve, BlurHasSix, OthersHaveNone, MiddleClashes, ChainClashes, OwnStoreIsNone, HalvedClashes, BothOrders, NeverLoaded, DimensionsInTurn, LastOneIsNoLoad, NoneOfTheDead};
+ghost use Rattle.affc_life.specs.Examples.{BlurHasTwelve, BlurHasSix, OthersHaveNone, MiddleClashes, ChainClashes, OwnStoreIsNone, HalvedClashes, BothOrders, NeverLoaded, AcrossArrays, AcrossOrders, DimensionsInTurn, LastOneIsNoLoad, NoneOfTheDead};
 
 /// A blur of two statements, at the times i and i + 2, and in the order of the text.
 pub fn blur()
@@ -16,10 +16,13 @@ pub fn chain()
     ensures halved { HalvedClashes }
 {}
 
-/// Statements without loops: a pair that is live in both orders, and values that are never loaded.
+/// Statements without loops: a pair that is live in both orders, values that are never loaded, and walks over two arrays and
+/// between two orders.
 pub fn straight()
     ensures both_orders { BothOrders }
     ensures never_loaded { NeverLoaded }
+    ensures arrays { AcrossArrays }
+    ensures orders { AcrossOrders }
 {}
 
 /// Which elements differ, and which accesses load.

@@ -13,7 +13,7 @@ ghost use Rattle.affc_life.specs.Drafts.{drafted, instance_named, after_named, b
 
 use crate::columns::add_padded;
 use crate::draft::{Draft, Walking};
-use crate::drafts::{apart_factor, factors_between};
+use crate::drafts::factors_between;
 use crate::ranges::clash_ranges;
 use affc_nest::{Access, Entry, Nest};
 use affc_order::columns::{add_spread, columns_from};
@@ -198,8 +198,8 @@ pub(crate) fn add_store(
     let after = stored_after(alloc, nest, asked.after, reader, leaf, named, writer)?;
     let before = stored_before(alloc, nest, asked.before, reader, leaf, writer)?;
     let columns = columns_in(leaf, writer);
-    let apart = apart_factor(alloc, columns, differ, x.as_slice(), y.as_slice())?;
-    let factors = factors_between(alloc, after, before, apart)?;
+    let (xs, ys) = (x.as_slice(), y.as_slice());
+    let factors = factors_between(alloc, columns, differ, after, before, xs, ys)?;
     out.push(Draft {
         columns,
         front,

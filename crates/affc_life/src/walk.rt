@@ -289,30 +289,6 @@ fn drafts_of(alloc: Global, asked: &Walking<'_>, flow: &Flow) -> Result<Vec<Draf
     Ok(drafts)
 }
 
-/// The clash systems of an array, as drafts.
-fn live_drafts(
-    alloc: Global,
-    nest: &Nest,
-    flow: &Flow,
-    schedule: &Schedule,
-    array: ArrayId,
-) -> Result<Vec<Draft>, AllocError>
-    requires scheduled { IsScheduled nest.now schedule.now }
-    requires trees { KeepLimits nest.now (trees_of flow.now) }
-    ensures all { IfOk result (λ drafts. flat_map drafted drafts.items ≡ clashes nest.now (trees_of flow.now) schedule.now array.0) }
-    ensures paired { IfOk result (λ drafts. All IsPaired (flat_map drafted drafts.items)) }
-{
-    let asked = Walking {
-        nest,
-        loaded: array,
-        stored: array,
-        after: schedule,
-        before: schedule,
-        differ: true,
-    };
-    drafts_of(alloc, &asked, flow)
-}
-
 /// The clash systems of an array in product form: by loads, leaves of their trees, storing parts, the two orders, and the
 /// dimension in which the elements differ.
 ///
@@ -331,6 +307,14 @@ pub fn clash_products(
     ensures fits { IfOk result (λ ps. ¬ (AnyLarge (clashes nest.now (trees_of flow.now) schedule.now array.0))) }
     ensures large { IfErr result (λ e. e ≡ ClashFault.Large → AnyLarge (clashes nest.now (trees_of flow.now) schedule.now array.0)) }
 {
-    let drafts = live_drafts(alloc, nest, flow, schedule, array)?;
+    let asked = Walking {
+        nest,
+        loaded: array,
+        stored: array,
+        after: schedule,
+        before: schedule,
+        differ: true,
+    };
+    let drafts = drafts_of(alloc, &asked, flow)?;
     products_of(alloc, drafts)
 }

@@ -30,16 +30,16 @@ columns_in-columns-requires-clause-leaf c = (at_leaf c.args.asked.now.nest.now c
 pub columns_in-columns-requires-clause-writer : goal.columns_in-columns-requires-clause-writer
 columns_in-columns-requires-clause-writer c = writer_few c.args.asked.now.nest.now c.args.reader.now (leaf_seen c.args.leaf.now) c.args.writer.now (at_leaf c.args.asked.now.nest.now c.args.reader.now (leaf_seen c.args.leaf.now) c.args.writer.now c.requires.seated)
 
-pub apart_factor-requires-clause-firsts : goal.apart_factor-requires-clause-firsts
-apart_factor-requires-clause-firsts c =
-    subst (λ k. All (IsWide k) c.as_slice.result.now) (sym c.columns_in-columns.ensures)
-    (subst (All (IsWide (c.args.leaf.now.columns + length c.args.writer.now.loops))) (sym (c.as_slice.ensures.value ∙ c.in_ok-x.ensures))
+pub factors_between-requires-clause-firsts : goal.factors_between-requires-clause-firsts
+factors_between-requires-clause-firsts c =
+    subst (λ k. All (IsWide k) c.as_slice-xs.result.now) (sym c.columns_in-columns.ensures)
+    (subst (All (IsWide (c.args.leaf.now.columns + length c.args.writer.now.loops))) (sym (c.as_slice-xs.ensures.value ∙ c.in_ok-x.ensures))
     (subscripts_wide (c.args.leaf.now.columns + length c.args.writer.now.loops) _ (load_subscripts c.args.asked.now.nest.now c.args.reader.now (leaf_seen c.args.leaf.now) c.args.writer.now (at_leaf c.args.asked.now.nest.now c.args.reader.now (leaf_seen c.args.leaf.now) c.args.writer.now c.requires.seated) c.args.load.now c.requires.load)))
 
-pub apart_factor-requires-clause-seconds : goal.apart_factor-requires-clause-seconds
-apart_factor-requires-clause-seconds c =
-    subst (λ k. All (IsWide k) c.as_slice-2.result.now) (sym c.columns_in-columns.ensures)
-    (subst (All (IsWide (c.args.leaf.now.columns + length c.args.writer.now.loops))) (sym (c.as_slice-2.ensures.value ∙ c.in_ok-y.ensures))
+pub factors_between-requires-clause-seconds : goal.factors_between-requires-clause-seconds
+factors_between-requires-clause-seconds c =
+    subst (λ k. All (IsWide k) c.as_slice-ys.result.now) (sym c.columns_in-columns.ensures)
+    (subst (All (IsWide (c.args.leaf.now.columns + length c.args.writer.now.loops))) (sym (c.as_slice-ys.ensures.value ∙ c.in_ok-y.ensures))
     (subscripts_wide (c.args.leaf.now.columns + length c.args.writer.now.loops) _ (store_subscripts c.args.asked.now.nest.now c.args.reader.now (leaf_seen c.args.leaf.now) c.args.writer.now (at_leaf c.args.asked.now.nest.now c.args.reader.now (leaf_seen c.args.leaf.now) c.args.writer.now c.requires.seated) c.args.store.now c.requires.store)))
 
 pub returns : goal.returns
@@ -50,7 +50,7 @@ returns c =
     let old = flat_map drafted c.args.out.now.items in
     let factors =
     c.in_ok-factors.ensures
-    ∙ ap (λ factor. after ∷ before ∷ factor ∷ []) (c.in_ok-apart.ensures ∙ ap (λ xs. differing differ xs c.as_slice-2.result.now []) c.as_slice.ensures.value ∙ ap (λ ys. differing differ c.in_ok-x.x.items ys []) c.as_slice-2.ensures.value) in
+    ∙ ap (λ factor. after ∷ before ∷ factor ∷ []) (ap (λ xs. differing differ xs c.as_slice-ys.result.now []) c.as_slice-xs.ensures.value ∙ ap (λ ys. differing differ c.in_ok-x.x.items ys []) c.as_slice-ys.ensures.value) in
     store_made c.args.asked.now.nest.now c.args.reader.now (leaf_seen c.args.leaf.now) c.args.writer.now (walk_of c.args.asked.now) c.args.load.now (instance_named c.args.named.now) c.args.store.now c.columns_in-columns.result c.in_ok-ranges.ranges
     c.in_ok-x.x.items c.in_ok-y.y.items c.in_ok-front.front.items after before old (flat_map drafted c.push.new.self.items) c.columns_in-columns.ensures
     c.in_ok-ranges.ensures c.in_ok-x.ensures c.in_ok-y.ensures c.in_ok-front.ensures c.in_ok-after.ensures c.in_ok-before.ensures

@@ -27,15 +27,12 @@ some_more : (n : ℕ) → nat_eq n 0 ≡ false → 1 ≤ n
 some_more zero e = absurd (cc)
 some_more (suc n) e = omega arith
 
-next : (n : ℕ) → n + 1 ≡ suc n
-next n = omega arith
-
 pub returns-in_ok-add_load-in-len1-up : goal.returns-in_ok-add_load-in-len1-up
 returns-in_ok-add_load-in-len1-up t c =
     let xs = c.args.accesses.now in
     let rest = take (length xs - 1) (drop 1 xs) in
     on_ok_weaker c.add_loads.result
-    (loads_made (clashes_of_load c.args.asked.now.nest.now (walk_of c.args.asked.now) c.args.reader.now (map seen c.args.trees.now)) xs rest c.load-item.result c.args.number (c.args.number + 1)
+    (loads_made (clashes_of_load c.args.asked.now.nest.now (walk_of c.args.asked.now) c.args.reader.now (map seen c.args.trees.now)) xs rest c.load-item.result c.args.number
     (flat_map drafted c.args.out.now.items) (flat_map drafted c.add_load.new.out.items) (flat_map drafted c.add_loads.new.out.items) (first_and_rest xs c.load-item.result c.in-len1-up.len_at_least c.load-item.is)
-    (some_more (length rest) (sym c.is_empty.ensures ∙ c.if-is_empty.false)) (next c.args.number) c.in_ok-add_load-in-len1-up.ensures)
+    (some_more (length rest) (sym c.is_empty.ensures ∙ c.if-is_empty.false)) c.in_ok-add_load-in-len1-up.ensures)
     c.add_loads.ensures

@@ -1,7 +1,8 @@
-use Rattle.std.proofs.Common.{flat_map, ◌≡◌, ◌+◌, ◌-◌, length, map, take, drop, ap, subst, arith}
+use Rattle.std.proofs.Common.{flat_map, ◌≡◌, ◌+◌, ◌-◌, length, map, take, drop, ap, sym, subst, arith}
 use Rattle.std.proofs.lemmas.Result.{err_from_is_err_and, on_ok_weaker, IfErr-weaker}
 use Rattle.affc_sched.proofs.Lists.{front_is}
 use Rattle.affc_quast.specs.Seen.{trees_of}
+use Rattle.affc_check.specs.list.Certs.{IsFoldSaid}
 use Rattle.affc_check.specs.list.Held.{listed_said}
 use Rattle.affc_check.specs.list.Items.{fold_items}
 use Rattle.affc_check.specs.list.Listed.{AreListed}
@@ -35,6 +36,31 @@ returns-in_err-add_part-in-len1-up-systems-clause-past t c =
     let p = err_from_is_err_and c.from_residual.result c.from_residual.ensures.1 in
     rw (p.1, p.2)
     (λ n e. let h = c.in_err-add_part-in-len1-up-systems.ensures.past n e in fold_first c.args.nest.now c.args.schedule.now (trees_of c.args.flow.now) cs rest f is c.args.first n h.0 h.1)
+
+pub add_part-requires-clause-said : goal.add_part-requires-clause-said
+add_part-requires-clause-said t c =
+    let cs = c.args.folds.now in
+    let rest = take (length cs - 1) (drop 1 cs) in
+    let ss = c.args.systems.now in
+    let others = take (length ss - 1) (drop 1 ss) in
+    let f = c.fold-item.result in
+    let own = c.own-item.result in
+    let is = front_is cs f c.in-len1-up.len_at_least c.fold-item.is in
+    let js = ap (map clash_systems) (front_is ss own c.in-len1-up-systems.len_at_least c.own-item.is) in
+    let first = first_systems c.args.nest.now c.args.schedule.now (trees_of c.args.flow.now) cs rest f is (map clash_systems ss) (map clash_systems others) (clash_systems own) js c.requires.systems in
+    subst (λ z. IsFoldSaid c.args.nest.now c.args.schedule.now (trees_of c.args.flow.now) f (fold_shown f (clash_systems z))) (sym c.as_slice-own.ensures) first.0.0
+
+pub add_part-requires-clause-fits : goal.add_part-requires-clause-fits
+add_part-requires-clause-fits t c =
+    let cs = c.args.folds.now in
+    let rest = take (length cs - 1) (drop 1 cs) in
+    let ss = c.args.systems.now in
+    let others = take (length ss - 1) (drop 1 ss) in
+    let f = c.fold-item.result in
+    let own = c.own-item.result in
+    let is = front_is cs f c.in-len1-up.len_at_least c.fold-item.is in
+    let js = ap (map clash_systems) (front_is ss own c.in-len1-up-systems.len_at_least c.own-item.is) in
+    (first_systems c.args.nest.now c.args.schedule.now (trees_of c.args.flow.now) cs rest f is (map clash_systems ss) (map clash_systems others) (clash_systems own) js c.requires.systems).0.1
 
 pub returns-in-Some-clause-ok : goal.returns-in-Some-clause-ok
 returns-in-Some-clause-ok t c =
