@@ -13,18 +13,9 @@ use crate::list::item::Listed;
 use crate::list::listing::add_product;
 use crate::list::stop::{PartStop, Stop, at_part};
 use affc_products::Group;
-use affc_rows::Form;
+use affc_questions::ranged::no_tail;
 use sqlite_items::Items;
 use std::alloc::{AllocError, Global};
-
-/// The last factor of a product that has no rows there.
-fn no_tail(alloc: Global) -> Result<Items<Items<Form>>, AllocError>
-    ensures { IfOk result (λ t. t ≡ [] ∷ []) }
-{
-    let mut tails = Items::new(alloc);
-    tails.push(Items::new(alloc))?;
-    Ok(tails)
-}
 
 /// Adds the questions of a group, if all keep the limits.
 fn add_group<'a>(alloc: Global, group: &'a Group, out: &mut Vec<Listed<'a>>) -> Result<(), Stop>
