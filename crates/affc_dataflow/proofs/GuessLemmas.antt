@@ -1,52 +1,54 @@
 -- Trees that are right under the tests and divisions above them: leaves by their questions, tests by both sides, and divisions.
-use Rattle.std.proofs.Common.{◌≡◌, ℕ, zero, suc, ◌+◌, ◌-◌, ◌^◌, ◌≤◌, ℤ, pos, negsuc, ◌≤ℤ◌, false, List, [], ◌∷◌, ◌++◌, length, map, replicate, Option, Some, None, refl, sym, ap, subst, ◌∙◌, inl, arith}
+use Rattle.std.proofs.Common.{◌≡◌, ℕ, zero, suc, ◌+◌, ◌-◌, ◌^◌, ◌≤◌, ℤ, pos, negsuc, ◌≤ℤ◌, false, List, [], ◌∷◌, ◌++◌, length, map, drop, replicate, Option, Some, None, refl, sym, ap, ap₂, subst, ◌∙◌, inl, arith}
 use Rattle.std.specs.Prelude.{max, int_le, slice_get, IfSome}
 use Rattle.std.specs.List.{All}
 use Rattle.std.proofs.lemmas.Int.{ints}
-use Rattle.std.proofs.lemmas.Option.{same_Some}
-use Rattle.std.proofs.lemmas.List.Elements.{All-nil, All-cons, All-head, All-tail}
+use Rattle.std.proofs.lemmas.Option.{same_Some, slice_get_within}
+use Rattle.std.proofs.lemmas.List.Elements.{All-nil, All-cons, All-drop, All-head, All-tail}
 use Rattle.affc_rows.specs.Forms.{Affine, value, HaveColumns}
+use Rattle.affc_rows.proofs.SizeLemmas.{within_raised}
 use Rattle.affc_system.specs.Boxes.{InBox}
 use Rattle.affc_system.specs.Systems.{Rows, IsRow, Met}
 use Rattle.affc_ast.specs.Index.{floor_of}
 use Rattle.affc_ast.specs.declared.tree.Program.{Program}
 use Rattle.affc_trace.specs.Law.{IsIn}
 use Rattle.affc_trace.proofs.EndedReads.{append_assoc}
-use Rattle.affc_trace.proofs.LastStores.{append_nil, map_append}
+use Rattle.affc_trace.proofs.LastStores.{append_nil}
 use Rattle.affc_trace.proofs.Members.{to_flat_map}
 use Rattle.affc_trace.proofs.Runs.{length_append}
 use Rattle.affc_domain.proofs.RangeLemmas.{box_push}
 use Rattle.affc_nest.specs.Asked.{IsNest}
-use Rattle.affc_nest.specs.Domains.{gap_row, with_rows}
+use Rattle.affc_nest.specs.Domains.{with_rows}
 use Rattle.affc_nest.specs.Questions.{widened}
 use Rattle.affc_nest.specs.declared.nest.Access.{Access}
 use Rattle.affc_nest.specs.declared.nest.Entry.{Entry}
 use Rattle.affc_nest.specs.declared.nest.Nest.{Nest}
 use Rattle.affc_nest.specs.Nests.{nest_of}
-use Rattle.affc_nest.specs.Sides.{IsSide}
-use Rattle.affc_nest.proofs.DomainLemmas.{from_all, met_append, met_both}
+use Rattle.affc_nest.specs.Wide.{IsWide}
+use Rattle.affc_nest.proofs.DomainLemmas.{from_all, met_append}
 use Rattle.affc_nest.proofs.EntryLemmas.{points_are_instances}
 use Rattle.affc_nest.proofs.QuestionLemmas as first
+use Rattle.affc_order.specs.Placed.{IsPlaced}
 use Rattle.affc_order.specs.Posed.{Posed}
+use Rattle.affc_order.specs.Systems.{loops_or_none}
 use Rattle.affc_order.specs.Spread.{spread}
 use Rattle.affc_sched.proofs.LegalLemmas.{entry_at}
-use Rattle.affc_sched.proofs.PairLemmas.{stands_in, subs_sides}
-use Rattle.affc_sched.proofs.WidthLemmas.{domain_wide}
+use Rattle.affc_sched.proofs.PairLemmas.{stands_in}
 use Rattle.affc_quast.specs.Laws.{IsOver}
-use Rattle.affc_nest.specs.Divisions.{multiple, division_rows}
-use Rattle.affc_quast.specs.Leaves.{Leaf, negated}
+use Rattle.affc_nest.specs.Divisions.{division_rows}
+use Rattle.affc_quast.specs.Leaves.{padded, negated}
 use Rattle.affc_quast.specs.Limits.{narrow, FitsForm, Shaped}
 use Rattle.affc_quast.specs.Paths.{IsNear}
 use Rattle.affc_quast.specs.Trees.{Tree, Test, Div, Source, Input, instance_at, named_at, quotients_at, depth_of, divisions_of}
 use Rattle.affc_nest.proofs.DivisionLemmas.{floor_is, floor_grows, division_met}
 use Rattle.affc_quast.proofs.LeafLemmas.{padded_value, short_value, says_negated}
-use Rattle.affc_flow.specs.Asked.{writers_of, all_named, input_asked}
-use Rattle.affc_dataflow.specs.Guesses.{IsPath, CoversOn, divided_path, IsQuotientRange}
+use Rattle.affc_flow.specs.Asked.{writers_of}
+use Rattle.affc_dataflow.specs.Guesses.{leaf_under, CoversOn, divided_path, IsQuotientRange}
 use Rattle.affc_flow.specs.Laws.{Loads, IsSourceOf, NoneHasAPoint}
 use Rattle.affc_flow.specs.Questions.{leaf_questions}
+use Rattle.affc_questions.specs.Asked.{IsLeafOf}
 use Rattle.affc_dataflow.specs.Searches.{Covers, IsLoad}
 use Rattle.affc_flow.specs.Writers.{Writes}
-use Rattle.affc_flow.proofs.AskedLemmas.{zeros_append, padded_widened, input_same, source_same}
 use Rattle.affc_latest.proofs.BesideLemmas.{is_nest}
 use Rattle.affc_dataflow.proofs.HalfLemmas.{test_says_side}
 use Rattle.affc_flow.proofs.NamesLemmas.{leaf_names_with}
@@ -58,14 +60,6 @@ use Rattle.affc_flow.proofs.WriterLemmas.{from_writers}
 pub rows_wide : (n : ℕ) (rows : List Affine) → All (IsRow n) rows → HaveColumns n rows
 rows_wide n [] h = All-nil (λ g. length g.coefs ≡ n)
 rows_wide n (r ∷ rows) h = All-cons (λ g. length g.coefs ≡ n) r rows (All-head (IsRow n) r rows h).width (rows_wide n rows (All-tail (IsRow n) r rows h))
-
-sides_wide : (n : ℕ) (fs : List Affine) → All (IsSide n) fs → HaveColumns n fs
-sides_wide n [] h = All-nil (λ g. length g.coefs ≡ n)
-sides_wide n (f ∷ fs) h = All-cons (λ g. length g.coefs ≡ n) f fs (All-head (IsSide n) f fs h).width (sides_wide n fs (All-tail (IsSide n) f fs h))
-
-second_wide : (n : ℕ) (fs gs : List Affine) → HaveColumns n (fs ++ gs) → HaveColumns n gs
-second_wide n [] gs h = h
-second_wide n (f ∷ fs) gs h = second_wide n fs gs (All-tail (λ g. length g.coefs ≡ n) f (fs ++ gs) h)
 
 at_most : (n : ℕ) (fs : List Affine) → HaveColumns n fs → All (λ r. length r.coefs ≤ n) fs
 at_most n [] h = All-nil (λ r. length r.coefs ≤ n)
@@ -82,62 +76,53 @@ writes_here nest array k w z at is = from_writers nest array (w, z) (to_flat_map
 
 -- ---- A leaf under tests and divisions
 
-module _ (nest : Nest) (e : Entry) (x : Access) (ranges : List (ℤ × ℤ)) (quotients : ℕ) (tests : List Affine) (tests_wide : HaveColumns ((length nest.params + length e.loops) + quotients) tests) where
-  abbrev leaf_under : Option Posed → Leaf
-  leaf_under o = record { columns = (length nest.params + length e.loops) + quotients; rows = tests; divisions = []; named = o }
+met_drop : (k : ℕ) (xs : List ℤ) (rows : List Affine) → Met xs rows → Met xs (drop k rows)
+met_drop zero xs rows m = m
+met_drop (suc k) xs [] m = tt
+met_drop (suc k) xs (r ∷ rows) m = met_drop k xs rows m.1
 
-  leaf_right : (o : Option Posed) → ((a : Posed) → o ≡ Some a → HaveColumns ((length nest.params + length e.loops) + quotients) a.iterators) → NoneHasAPoint (leaf_questions nest e x ranges (leaf_under o))
-      → (program : Program) (p its qs : List ℤ) → nest ≡ nest_of program → Loads program p its e x → length ((p ++ its) ++ qs) ≡ (length nest.params + length e.loops) + quotients
-      → InBox ranges ((p ++ its) ++ qs) → Met ((p ++ its) ++ qs) tests → IsSourceOf program p its e x (instance_at o ((p ++ its) ++ qs))
-  leaf_right o wide none program p its qs is loads long inside met =
-      let m = (length nest.params + length e.loops) + quotients in
-      let none' : NoneHasAPoint (leaf_questions (nest_of program) e x ranges (leaf_under o)) = subst (λ n. NoneHasAPoint (leaf_questions n e x ranges (leaf_under o))) is none in
-      let over : IsOver m (leaf_under o) = record { width = same m; rows = at_most m tests tests_wide; named = wide } in
-      leaf_names_with program p its qs e x ranges (leaf_under o) loads m over long met inside (λ q more i meets box. none' q i (((p ++ its) ++ qs) ++ more) box meets)
+pub placed : (nest : Nest) (columns part : ℕ) (forms : List Affine) (w : Entry) → slice_get nest.entries part ≡ Some w → length forms ≡ length w.loops → All (IsRow columns) forms → IsPlaced nest columns (record { part = part; iterators = forms })
+placed nest columns part forms w at each rows = record { part = slice_get_within nest.entries part w at; each = each ∙ ap (λ o. length (loops_or_none o)) (sym at); rows = rows }
+
+module _ (nest : Nest) (e : Entry) (x : Access) (number : ℕ) (h : IsLoad nest e x number) (path : Rows) (ranges : List (ℤ × ℤ)) (wide : HaveColumns path.columns path.rows) where
+  pub leaf_is_of : (o : Option Posed) → length nest.params + length e.loops ≤ path.columns → path.columns ≤ 128 → ((a : Posed) → o ≡ Some a → IsPlaced nest path.columns a) → IsLeafOf nest e x (leaf_under e path o)
+  leaf_is_of o first few named = record {
+    nested = is_nest nest h.nested;
+    reads = record { there = h.touched.there; alive = h.touched.alive };
+    loads = h.touched.among;
+    first = first;
+    few = fewer path.columns few;
+    rows = All-drop (λ r. length r.coefs ≤ path.columns) (length e.domain.rows) path.rows (at_most path.columns path.rows wide);
+    named = named;
+  }
+    where
+      fewer : (k : ℕ) → k ≤ 128 → k ≤ 410
+      fewer k l = omega (arith, l)
+
+  leaf_right : (o : Option Posed) → ((a : Posed) → o ≡ Some a → HaveColumns path.columns a.iterators) → NoneHasAPoint (leaf_questions nest e x ranges (leaf_under e path o))
+      → (program : Program) (p its qs : List ℤ) → nest ≡ nest_of program → Loads program p its e x → length ((p ++ its) ++ qs) ≡ path.columns
+      → InBox ranges ((p ++ its) ++ qs) → Met ((p ++ its) ++ qs) path.rows → IsSourceOf program p its e x (instance_at o ((p ++ its) ++ qs))
+  leaf_right o named none program p its qs is loads long inside met =
+      let zs = (p ++ its) ++ qs in
+      let none' : NoneHasAPoint (leaf_questions (nest_of program) e x ranges (leaf_under e path o)) = subst (λ n. NoneHasAPoint (leaf_questions n e x ranges (leaf_under e path o))) is none in
+      let over : IsOver path.columns (leaf_under e path o) = record {
+        width = same path.columns;
+        rows = All-drop (λ r. length r.coefs ≤ path.columns) (length e.domain.rows) path.rows (at_most path.columns path.rows wide);
+        named = named;
+      } in
+      leaf_names_with program p its qs e x ranges (leaf_under e path o) loads path.columns over long (met_drop (length e.domain.rows) zs path.rows met) inside (λ q more i meets box. none' q i (zs ++ more) box meets)
     where
       same : (m : ℕ) → m ≡ m + 0
       same m = omega arith
 
-module _ (nest : Nest) (e : Entry) (x : Access) (number : ℕ) (h : IsLoad nest e x number) (path : Rows) (under : IsPath e path) (ranges : List (ℤ × ℤ)) (wide : HaveColumns path.columns path.rows) where
-  whole : IsNest nest
-  whole = is_nest nest h.nested
-
-  columns : e.domain.columns ≡ length nest.params + length e.loops
-  columns = (stands_in nest whole e h.touched.there).columns
-
-  abbrev all_columns : ℕ
-  all_columns = (length nest.params + length e.loops) + under.quotients
-
-  path_is : path ≡ record { columns = (length nest.params + length e.loops) + under.quotients; rows = map (widened under.quotients) e.domain.rows ++ under.rows }
-  path_is = under.is ∙ (λ i. record { columns = columns i + under.quotients; rows = map (widened under.quotients) e.domain.rows ++ under.rows })
-
-  its_rows : HaveColumns (length nest.params + length e.loops) e.domain.rows
-  its_rows =
-      subst (λ (n : Nest). HaveColumns (length n.params + length e.loops) e.domain.rows) (sym whole.is)
-      (domain_wide whole.program whole.has e.part e (entry_at whole.program whole.has e (subst (λ (n : Nest). IsIn e n.entries) whole.is h.touched.there)) h.touched.alive)
-
-  its_tests : HaveColumns ((length nest.params + length e.loops) + under.quotients) under.rows
-  its_tests = second_wide all_columns (map (widened under.quotients) e.domain.rows) under.rows (subst (λ (r : Rows). HaveColumns r.columns r.rows) path_is wide)
-
-  its_subs : HaveColumns (length nest.params + length e.loops) x.subs
-  its_subs = sides_wide (length nest.params + length e.loops) x.subs (subs_sides nest whole e h.touched.there x h.touched.among)
-
-  tests_met : (xs : List ℤ) → Met xs path.rows → Met xs under.rows
-  tests_met xs met = (met_both xs (map (widened under.quotients) e.domain.rows) under.rows (subst (λ (r : Rows). Met xs r.rows) under.is met)).1
-
-  long_is : {k : ℕ} → k ≡ path.columns → k ≡ (length nest.params + length e.loops) + under.quotients
-  long_is l = l ∙ ap (λ (r : Rows). r.columns) path_is
-
   pub source_right : (w : Entry) (z : Access) → Writes nest x.array.0 w z → (forms : List Affine) → HaveColumns path.columns forms → length forms ≡ length w.loops → All (FitsForm narrow) forms
-      → NoneHasAPoint (all_named nest e x path ranges w z forms) → CoversOn nest e x path ranges 0 0 (Source w.part forms)
+      → NoneHasAPoint (leaf_questions nest e x ranges (leaf_under e path (Some (record { part = w.part; iterators = forms })))) → CoversOn nest e x path ranges 0 0 (Source w.part forms)
   source_right w z writes forms width each fits none =
-      let forms_wide : HaveColumns ((length nest.params + length e.loops) + under.quotients) forms = subst (λ (r : Rows). HaveColumns r.columns forms) path_is width in
       let posed : Posed = record { part = w.part; iterators = forms } in
+      let whole : IsNest nest = is_nest nest h.nested in
       record {
         right = λ program p its qs is loads long inside met. record {
-          source = leaf_right nest e x ranges under.quotients under.rows its_tests (Some posed) (λ a q. subst (λ (a : Posed). HaveColumns ((length nest.params + length e.loops) + under.quotients) a.iterators) (same_Some posed a q) forms_wide)
-              (subst NoneHasAPoint (sym (source_same nest whole e h.touched.there x ranges under.quotients under.rows its_rows its_tests its_subs w z writes forms forms_wide each)) (subst (λ (r : Rows). NoneHasAPoint (all_named nest e x r ranges w z forms)) path_is none))
-              program p its qs is loads (long_is long) inside (tests_met ((p ++ its) ++ qs) met);
+          source = leaf_right (Some posed) (λ a q. subst (λ (a : Posed). HaveColumns path.columns a.iterators) (same_Some posed a q) width) none program p its qs is loads long inside met;
           near = All-nil IsNear;
         };
         within = record {
@@ -157,58 +142,13 @@ module _ (nest : Nest) (e : Entry) (x : Access) (number : ℕ) (h : IsLoad nest 
         };
       }
 
-  pub input_right : NoneHasAPoint (input_asked nest e x path ranges) → CoversOn nest e x path ranges 0 0 Input
+  pub input_right : NoneHasAPoint (leaf_questions nest e x ranges (leaf_under e path None)) → CoversOn nest e x path ranges 0 0 Input
   input_right none = record {
-    right = λ program p its qs is loads long inside met. record {
-      source = leaf_right nest e x ranges under.quotients under.rows its_tests None (λ a q. absurd (cc))
-          (subst NoneHasAPoint (sym (input_same nest whole e h.touched.there x ranges under.quotients under.rows its_rows its_tests its_subs)) (subst (λ (r : Rows). NoneHasAPoint (input_asked nest e x r ranges)) path_is none))
-          program p its qs is loads (long_is long) inside (tests_met ((p ++ its) ++ qs) met);
-      near = All-nil IsNear;
-    };
+    right = λ program p its qs is loads long inside met. record { source = leaf_right None (λ a q. absurd (cc)) none program p its qs is loads long inside met; near = All-nil IsNear };
     within = record { shaped = tt; stores = tt; fits = tt; short = omega arith; few = omega arith };
   }
 
 -- ---- Paths
-
-widened_none : (rows : List Affine) → map (widened 0) rows ≡ rows
-widened_none [] = refl
-widened_none (f ∷ rows) = (λ i. record { coefs = append_nil f.coefs i; constant = f.constant } ∷ widened_none rows i)
-
-widened_twice : (k : ℕ) (rows : List Affine) → map (widened 1) (map (widened k) rows) ≡ map (widened (k + 1)) rows
-widened_twice k [] = refl
-widened_twice k (f ∷ rows) = (λ i. record { coefs = (append_assoc f.coefs (replicate k (pos 0)) (pos 0 ∷ []) ∙ ap (λ zs. f.coefs ++ zs) (zeros_append k 1)) i; constant = f.constant } ∷ widened_twice k rows i)
-
-pub whole_path : (e : Entry) → IsPath e e.domain
-whole_path e = record {
-  quotients = 0;
-  rows = [];
-  is = sym (λ i. record { columns = none e.domain.columns i; rows = (append_nil (map (widened 0) e.domain.rows) ∙ widened_none e.domain.rows) i });
-}
-  where
-    none : (k : ℕ) → k + 0 ≡ k
-    none k = omega arith
-
-pub longer_path : (e : Entry) (path more : Rows) (rows : List Affine) → IsPath e path → more ≡ with_rows path rows → IsPath e more
-longer_path e path more rows h is = record {
-  quotients = h.quotients;
-  rows = h.rows ++ rows;
-  is = is ∙ ap (λ (r : Rows). with_rows r rows) h.is ∙ (λ i. record { columns = e.domain.columns + h.quotients; rows = append_assoc (map (widened h.quotients) e.domain.rows) h.rows rows i });
-}
-
-pub path_behind : (e : Entry) (path more : Rows) (form : Affine) (by : ℤ) → IsPath e path → more ≡ divided_path path form by → IsPath e more
-path_behind e path more form by h is = record {
-  quotients = h.quotients + 1;
-  rows = map (widened 1) h.rows ++ division_rows path.columns form by;
-  is = is ∙ ap (λ (r : Rows). record { columns = suc r.columns; rows = map (widened 1) r.rows ++ division_rows path.columns form by }) h.is
-      ∙ (λ i. record {
-        columns = one e.domain.columns h.quotients i;
-        rows = (ap (λ rs. rs ++ division_rows path.columns form by) (map_append (widened 1) (map (widened h.quotients) e.domain.rows) h.rows ∙ ap (λ rs. rs ++ map (widened 1) h.rows) (widened_twice h.quotients e.domain.rows))
-            ∙ append_assoc (map (widened (h.quotients + 1)) e.domain.rows) (map (widened 1) h.rows) (division_rows path.columns form by)) i;
-      });
-}
-  where
-    one : (a b : ℕ) → suc (a + b) ≡ a + (b + 1)
-    one a b = omega arith
 
 spread_widened : (f : Affine) → spread 0 0 1 f ≡ widened 1 f
 spread_widened f = refl
@@ -217,28 +157,23 @@ spread_rows : (rows : List Affine) → map (spread 0 0 1) rows ≡ map (widened 
 spread_rows [] = refl
 spread_rows (f ∷ rows) = ap (λ gs. widened 1 f ∷ gs) (spread_rows rows)
 
--- the path behind a division, row by row
-pub divided_is : (path : Rows) (form : Affine) (by : ℤ) (columns : ℕ) (rows : List Affine) (first second third fourth : Rows) (whole least past low high : Affine) → columns ≡ path.columns
-    → first ≡ record { columns = columns + 1; rows = [] } → rows ≡ path.rows → second ≡ with_rows first (map (spread 0 0 1) rows) → whole ≡ spread 0 0 1 form → least ≡ multiple columns by (pos 0)
-    → low ≡ gap_row least whole 0 → third ≡ with_rows second (low ∷ []) → past ≡ multiple columns by by → high ≡ gap_row whole past 1 → fourth ≡ with_rows third (high ∷ []) → fourth ≡ divided_path path form by
-divided_is path form by columns rows first second third fourth whole least past low high c a r b w l lo d p hi e =
-    e ∙ ap (λ s. with_rows s (high ∷ [])) (d ∙ ap (λ s. with_rows s (low ∷ [])) (b ∙ ap (λ s. with_rows s (map (spread 0 0 1) rows)) a))
-    ∙ (λ i. record { columns = next columns path.columns c i; rows = all i })
+-- the path behind a division
+pub divided_is : (path : Rows) (form : Affine) (by : ℤ) (columns : ℕ) (rows none made slice : List Affine) (first second third : Rows) → columns ≡ path.columns → first ≡ record { columns = columns + 1; rows = [] } → rows ≡ path.rows
+    → second ≡ with_rows first (map (spread 0 0 1) rows) → none ≡ [] → made ≡ none ++ division_rows columns form by → slice ≡ made → third ≡ with_rows second slice → third ≡ divided_path path form by
+divided_is path form by columns rows none made slice first second third c a r b n d q e =
+    e ∙ ap (λ s. with_rows s slice) (b ∙ ap (λ s. with_rows s (map (spread 0 0 1) rows)) a) ∙ (λ i. record { columns = next columns path.columns c i; rows = all i })
   where
     next : (m n : ℕ) → m ≡ n → m + 1 ≡ suc n
     next m n e = omega (arith, e)
 
-    low_is : low ≡ gap_row (multiple path.columns by (pos 0)) (widened 1 form) 0
-    low_is =
-        lo ∙ ap (λ f. gap_row f whole 0) (l ∙ ap (λ n. multiple n by (pos 0)) c) ∙ ap (λ f. gap_row (multiple path.columns by (pos 0)) f 0) (w ∙ spread_widened form)
-
-    high_is : high ≡ gap_row (widened 1 form) (multiple path.columns by by) 1
-    high_is = hi ∙ ap (λ f. gap_row f past 1) (w ∙ spread_widened form) ∙ ap (λ f. gap_row (widened 1 form) f 1) (p ∙ ap (λ n. multiple n by by) c)
-
-    all : (map (spread 0 0 1) rows ++ low ∷ []) ++ high ∷ [] ≡ map (widened 1) path.rows ++ division_rows path.columns form by
+    all : map (spread 0 0 1) rows ++ slice ≡ map (widened 1) path.rows ++ division_rows path.columns form by
     all =
-        append_assoc (map (spread 0 0 1) rows) (low ∷ []) (high ∷ []) ∙ ap (λ rs. rs ++ low ∷ high ∷ []) (ap (map (spread 0 0 1)) r ∙ spread_rows path.rows)
-        ∙ (λ i. map (widened 1) path.rows ++ low_is i ∷ high_is i ∷ [])
+        ap₂ (λ xs ys. xs ++ ys) (ap (map (spread 0 0 1)) r ∙ spread_rows path.rows)
+        (q ∙ d ∙ ap (λ rs. rs ++ division_rows columns form by) n ∙ ap (λ k. division_rows k form by) c)
+
+-- a form of a tree is wide
+pub narrow_wide : (n : ℕ) (f : Affine) → length f.coefs ≡ n → FitsForm narrow f → IsWide n f
+narrow_wide n f e h = within_raised n (2 ^ 20) (2 ^ 40) (2 ^ 110) (2 ^ 110) f (omega arith) (omega arith) (record { width = e; coefs_fit = h.coefs_fit; constant_fits = h.constant_fits })
 
 -- ---- Tests
 
@@ -283,6 +218,12 @@ module _ (nest : Nest) (e : Entry) (x : Access) (path : Rows) (ranges : List (�
       most a b h g = omega (arith, h, g)
 
 -- ---- Divisions
+
+padded_widened : (n k columns : ℕ) (f : Affine) → columns ≡ n + k → length f.coefs ≡ n → padded columns f ≡ widened k f
+padded_widened n k columns f c e = λ i. record { coefs = f.coefs ++ replicate (more (length f.coefs) c e i) (pos 0); constant = f.constant }
+  where
+    more : (l : ℕ) → columns ≡ n + k → l ≡ n → columns - l ≡ k
+    more l c e = omega (arith, c, e)
 
 met_widened : (rows : List Affine) (xs : List ℤ) (q : ℤ) → HaveColumns (length xs) rows → Met xs rows → Met (xs ++ q ∷ []) (map (widened 1) rows)
 met_widened [] xs q w m = tt

@@ -1,16 +1,16 @@
 -- Lists that are taken in two parts.
-use Rattle.std.proofs.Common.{◌≡◌, List, [], ◌∷◌, ◌++◌, map, refl, sym, ap, subst, ◌∙◌, inl, inr}
+use Rattle.std.proofs.Common.{◌≡◌, List, [], ◌∷◌, ◌++◌, map, sym, ap, subst, ◌∙◌, inl, inr}
 use Rattle.affc_trace.proofs.EndedReads.{append_assoc}
 use Rattle.affc_trace.proofs.LastStores.{map_append}
 use Rattle.affc_nest.specs.declared.nest.Entry.{Entry}
 use Rattle.affc_nest.specs.declared.nest.Nest.{Nest}
 use Rattle.affc_quast.specs.Trees.{Tree}
-use Rattle.affc_flow.specs.Asked.{asked}
 use Rattle.affc_latest.proofs.Lists.{in_parts}
 use Rattle.affc_dataflow.specs.Finds.{AreTreesFrom, AddsTreesFrom}
 use Rattle.affc_flow.specs.Laws.{NoneHasAPoint}
 use Rattle.affc_flow.specs.Questions.{Question}
-use Rattle.affc_flow.specs.declared.questions.Question as held
+use Rattle.affc_dataflow.specs.Guesses.{asked}
+use Rattle.affc_dataflow.specs.declared.asked.Question as held
 
 -- ---- Questions
 

@@ -1,5 +1,5 @@
 -- Trees that are right under the tests and divisions above them.
-use Rattle.std.specs.Prelude.{◌≡◌, ℕ, suc, ◌+◌, ℤ, ◌≤ℤ◌, List, ◌++◌, map, length}
+use Rattle.std.specs.Prelude.{◌≡◌, ℕ, suc, ℤ, ◌≤ℤ◌, List, [], ◌++◌, map, length, drop, Option}
 use Rattle.std.specs.List.{All}
 use Rattle.affc_rows.specs.Forms.{Affine, value}
 use Rattle.affc_system.specs.Boxes.{InBox}
@@ -12,16 +12,22 @@ use Rattle.affc_nest.specs.declared.nest.Entry.{Entry}
 use Rattle.affc_nest.specs.declared.nest.Nest.{Nest}
 use Rattle.affc_nest.specs.Nests.{nest_of}
 use Rattle.affc_nest.specs.Divisions.{division_rows}
+use Rattle.affc_order.specs.Posed.{Posed}
+use Rattle.affc_quast.specs.Leaves.{Leaf}
 use Rattle.affc_quast.specs.Limits.{narrow, IsTreeWithin}
 use Rattle.affc_quast.specs.Paths.{IsNear}
 use Rattle.affc_quast.specs.Trees.{Tree, named_at, quotients_at}
 use Rattle.affc_flow.specs.Laws.{Loads, IsSourceOf}
+use Rattle.affc_flow.specs.Questions.{Question}
+use Rattle.affc_dataflow.specs.declared.asked.Question as held
 
--- the domain of a part, seen with so many quotients behind its columns, and the rows of tests and divisions
-pub record IsPath (e : Entry) (path : Rows) : Type 0 where
-  pub quotients : ℕ
-  pub rows : List Affine
-  pub is : path ≡ record { columns = e.domain.columns + quotients; rows = map (widened quotients) e.domain.rows ++ rows }
+-- a question in code
+abbrev pub asked : held.Question → Question
+asked q = record { system = q.system; ranges = q.ranges }
+
+-- the leaf that names this under a path, which begins with the rows of the domain of the load's part
+abbrev pub leaf_under : Entry → (path : Rows) → Option Posed → Leaf
+leaf_under e path named = record { columns = path.columns; rows = drop (length e.domain.rows) path.rows; divisions = []; named = named }
 
 -- what is to be said at one instance, with these quotients
 pub record IsRightWith (program : Program) (p iterators quotients : List ℤ) (e : Entry) (x : Access) (tree : Tree) : Type 0 where

@@ -1,22 +1,21 @@
 //! What is behind a division, and its tree.
 ghost use Rattle.std.specs.Prelude.{◌≡◌, ◌-◌, ◌^◌, ◌≤◌, ◌≤ℤ◌, ◌++◌, ◌∷◌, [], pos, length, IfOk, IfSome, Some};
 ghost use Rattle.affc_ast.specs.Index.{floor_of};
-ghost use Rattle.affc_nest.specs.Divisions.{multiple};
 ghost use Rattle.affc_quast.specs.Limits.{narrow, FitsForm};
 ghost use Rattle.affc_quast.specs.Paths.{IsNear};
 ghost use Rattle.affc_quast.specs.Seen.{seen};
 ghost use Rattle.affc_quast.specs.Trees.{Div};
-ghost use Rattle.affc_dataflow.specs.Guesses.{CoversOn, IsPath, IsQuotientRange, divided_path};
+ghost use Rattle.affc_dataflow.specs.Guesses.{CoversOn, IsQuotientRange, divided_path};
 
 use crate::guess::Depth;
 use affc_flow::load::Load;
-use affc_flow::questions::{Place, Unasked, gap, push_row, push_spread};
+use affc_flow::questions::{Place, Unasked, push_rows, push_spread};
 use affc_nest::Division;
-use affc_order::columns::spread;
+use affc_nest::divisions::add_division;
 use affc_quast::Quast;
 use affc_rows::Form;
 use affc_system::{BoxOf, System, interval};
-use smallvec::SmallVec;
+use sqlite_items::Items;
 use std::alloc::{AllocError, Global};
 
 /// The greatest magnitude of a quotient.
@@ -24,36 +23,21 @@ const MOST: i128 = 1 << 60;
 
 // ---- Behind a division.
 
-/// So many times the column behind so many others, and a number.
-fn multiple(alloc: Global, columns: u32, by: i64, constant: i64) -> Result<Form, AllocError>
-    ensures { IfOk result (λ f. f ≡ multiple columns by constant) }
-{
-    let mut coefs = SmallVec::new(alloc);
-    coefs.push(i128::from(by))?;
-    let alone = Form {
-        coefs,
-        constant: i128::from(constant),
-    };
-    spread(alloc, &alone, 0, columns, 0)
-}
-
 /// The path behind a division.
 fn path_behind(alloc: Global, path: &System, form: &Form, by: i64) -> Result<System, Unasked>
+    requires wide { length form.now.coefs ≡ path.now.columns }
+    requires fits { FitsForm narrow form.now }
     ensures { IfOk result (λ s. s ≡ divided_path path.now form.now by) }
 {
     let columns = path.columns();
     if columns > 127 {
         return Err(Unasked::Large);
     }
+    let mut made = Items::new(alloc);
+    add_division(alloc, columns, form, by, &mut made)?;
     let mut system = System::new(alloc, columns + 1);
     push_spread(alloc, &mut system, path.rows(), 0, 0, 1)?;
-    let whole = spread(alloc, form, 0, 0, 1)?;
-    let least = multiple(alloc, columns, by, 0)?;
-    let low = gap(alloc, &least, &whole, 0)?;
-    push_row(&mut system, low)?;
-    let past = multiple(alloc, columns, by, by)?;
-    let high = gap(alloc, &whole, &past, 1)?;
-    push_row(&mut system, high)?;
+    push_rows(&mut system, made.as_slice())?;
     Ok(system)
 }
 
@@ -100,17 +84,15 @@ pub(crate) struct Behind {
 }
 
 /// What is behind a division.
-#[tactic(auto, using(crate::proofs::GuessLemmas::path_behind))]
 pub(crate) fn rows_behind(
     alloc: Global,
-    load: &Load<'_>,
     place: &Place<'_>,
     form: &Form,
     by: i64,
 ) -> Result<Option<Behind>, AllocError>
-    requires under { IsPath load.now.reader.now place.now.path.now }
+    requires wide { length form.now.coefs ≡ place.now.path.now.columns }
+    requires fits { FitsForm narrow form.now }
     requires by { pos 1 ≤ℤ by }
-    ensures under { IfOk result (λ o. IfSome o (λ b. IsPath load.now.reader.now b.path)) }
     ensures path { IfOk result (λ o. IfSome o (λ b. b.path ≡ divided_path place.now.path.now form.now by)) }
     ensures ranges { IfOk result (λ o. IfSome o (λ b. b.ranges ≡ place.now.ranges.now ++ b.range ∷ [])) }
     ensures range { IfOk result (λ o. IfSome o (λ b. IsQuotientRange place.now.ranges.now form.now by b.range)) }

@@ -3,7 +3,7 @@ ghost use Rattle.std.specs.Prelude.{◌≡◌, ◌^◌, ◌≤ℤ◌, pos, lengt
 ghost use Rattle.affc_split.specs.Budgets.{IsLater};
 ghost use Rattle.affc_quast.specs.Limits.{narrow, FitsForm};
 ghost use Rattle.affc_quast.specs.Seen.{seen};
-ghost use Rattle.affc_dataflow.specs.Guesses.{CoversOn, IsPath};
+ghost use Rattle.affc_dataflow.specs.Guesses.{CoversOn};
 ghost use Rattle.affc_dataflow.specs.Moves.{IfStepLeaf, IfLeaf};
 ghost use Rattle.affc_dataflow.specs.Searches.{Covers, IsLoad};
 
@@ -71,7 +71,6 @@ fn step_with(
     budget: &mut Budget,
 ) -> Result<Step, Stop>
     requires load { IsLoad load.now.nest.now load.now.reader.now load.now.access.now load.now.number }
-    requires path { IsPath load.now.reader.now place.now.path.now }
     ensures right { IfOk result (λ s. IfStepLeaf s (λ t. CoversOn load.now.nest.now load.now.reader.now load.now.access.now place.now.path.now place.now.ranges.now 0 0 (seen t))) }
     ensures later { IsLater budget.old budget.new }
     ensures stop { IfErr result (λ e. e ≡ Stop.Budget → budget.new.limit ≡ Some budget.new.spent) }
@@ -105,7 +104,6 @@ fn next_step(
     budget: &mut Budget,
 ) -> Result<Step, Stop>
     requires load { IsLoad load.now.nest.now load.now.reader.now load.now.access.now load.now.number }
-    requires path { IsPath load.now.reader.now site.now.place.now.path.now }
     ensures right { IfOk result (λ s. IfStepLeaf s (λ t. CoversOn load.now.nest.now load.now.reader.now load.now.access.now site.now.place.now.path.now site.now.place.now.ranges.now 0 0 (seen t))) }
     ensures later { IsLater budget.old budget.new }
     ensures stop { IfErr result (λ e. e ≡ Stop.Budget → budget.new.limit ≡ Some budget.new.spent) }
@@ -198,7 +196,6 @@ fn first_step(
     budget: &mut Budget,
 ) -> Result<Option<Found>, Stop>
     requires load { IsLoad load.now.nest.now load.now.reader.now load.now.access.now load.now.number }
-    requires path { IsPath load.now.reader.now site.now.place.now.path.now }
     ensures right { IfOk result (λ o. IfSome o (λ f. IfStepLeaf f.step (λ t. CoversOn load.now.nest.now load.now.reader.now load.now.access.now site.now.place.now.path.now site.now.place.now.ranges.now 0 0 (seen t)))) }
     ensures later { IsLater budget.old budget.new }
     ensures stop { IfErr result (λ e. e ≡ Stop.Budget → budget.new.limit ≡ Some budget.new.spent) }
@@ -232,7 +229,6 @@ fn look(
     budget: &mut Budget,
 ) -> Result<Move, Stop>
     requires load { IsLoad load.now.nest.now load.now.reader.now load.now.access.now load.now.number }
-    requires path { IsPath load.now.reader.now site.now.place.now.path.now }
     ensures right { IfOk result (λ m. IfLeaf m (λ t. CoversOn load.now.nest.now load.now.reader.now load.now.access.now site.now.place.now.path.now site.now.place.now.ranges.now 0 0 (seen t))) }
     ensures later { IsLater budget.old budget.new }
     ensures stop { IfErr result (λ e. e ≡ Stop.Budget → budget.new.limit ≡ Some budget.new.spent) }
@@ -305,7 +301,6 @@ fn stuck(
     budget: &mut Budget,
 ) -> Result<Move, Stop>
     requires load { IsLoad load.now.nest.now load.now.reader.now load.now.access.now load.now.number }
-    requires path { IsPath load.now.reader.now site.now.place.now.path.now }
     ensures right { IfOk result (λ m. IfLeaf m (λ t. CoversOn load.now.nest.now load.now.reader.now load.now.access.now site.now.place.now.path.now site.now.place.now.ranges.now 0 0 (seen t))) }
     ensures later { IsLater budget.old budget.new }
     ensures stop { IfErr result (λ e. e ≡ Stop.Budget → budget.new.limit ≡ Some budget.new.spent) }
@@ -331,7 +326,6 @@ fn next_move(
     budget: &mut Budget,
 ) -> Result<Move, Stop>
     requires load { IsLoad load.now.nest.now load.now.reader.now load.now.access.now load.now.number }
-    requires path { IsPath load.now.reader.now site.now.place.now.path.now }
     ensures right { IfOk result (λ m. IfLeaf m (λ t. CoversOn load.now.nest.now load.now.reader.now load.now.access.now site.now.place.now.path.now site.now.place.now.ranges.now 0 0 (seen t))) }
     ensures later { IsLater budget.old budget.new }
     ensures stop { IfErr result (λ e. e ≡ Stop.Budget → budget.new.limit ≡ Some budget.new.spent) }
@@ -365,7 +359,6 @@ fn parted(
     budget: &mut Budget,
 ) -> Result<Option<Quast>, Stop>
     requires load { IsLoad load.now.nest.now load.now.reader.now load.now.access.now load.now.number }
-    requires path { IsPath load.now.reader.now site.now.place.now.path.now }
     ensures right { IfOk result (λ o. IfSome o (λ t. CoversOn load.now.nest.now load.now.reader.now load.now.access.now site.now.place.now.path.now site.now.place.now.ranges.now depth.left depth.divisions (seen t))) }
     ensures later { IsLater budget.old budget.new }
     ensures stop { IfErr result (λ e. e ≡ Stop.Budget → budget.new.limit ≡ Some budget.new.spent) }
@@ -472,7 +465,6 @@ fn below(
     budget: &mut Budget,
 ) -> Result<Option<Quast>, Stop>
     requires load { IsLoad load.now.nest.now load.now.reader.now load.now.access.now load.now.number }
-    requires path { IsPath load.now.reader.now site.now.place.now.path.now }
     ensures right { IfOk result (λ o. IfSome o (λ t. CoversOn load.now.nest.now load.now.reader.now load.now.access.now site.now.place.now.path.now site.now.place.now.ranges.now depth.left depth.divisions (seen t))) }
     ensures later { IsLater budget.old budget.new }
     ensures stop { IfErr result (λ e. e ≡ Stop.Budget → budget.new.limit ≡ Some budget.new.spent) }
@@ -486,7 +478,7 @@ fn below(
         return Ok(None);
     };
     let Wanted { number, division } = made;
-    let Some(behind) = rows_behind(alloc, load, site.place, &division.form, division.by)? else {
+    let Some(behind) = rows_behind(alloc, site.place, &division.form, division.by)? else {
         return Ok(None);
     };
     let place = Place {
@@ -524,7 +516,6 @@ fn grow(
     budget: &mut Budget,
 ) -> Result<Option<Quast>, Stop>
     requires load { IsLoad load.now.nest.now load.now.reader.now load.now.access.now load.now.number }
-    requires path { IsPath load.now.reader.now site.now.place.now.path.now }
     ensures right { IfOk result (λ o. IfSome o (λ t. CoversOn load.now.nest.now load.now.reader.now load.now.access.now site.now.place.now.path.now site.now.place.now.ranges.now depth.left depth.divisions (seen t))) }
     ensures later { IsLater budget.old budget.new }
     ensures stop { IfErr result (λ e. e ≡ Stop.Budget → budget.new.limit ≡ Some budget.new.spent) }
@@ -574,7 +565,6 @@ fn tree_of(
     budget: &mut Budget,
 ) -> Result<Option<Quast>, Stop>
     requires load { IsLoad load.now.nest.now load.now.reader.now load.now.access.now load.now.number }
-    requires path { IsPath load.now.reader.now place.now.path.now }
     ensures right { IfOk result (λ o. IfSome o (λ t. CoversOn load.now.nest.now load.now.reader.now load.now.access.now place.now.path.now place.now.ranges.now left 12 (seen t))) }
     ensures later { IsLater budget.old budget.new }
     ensures stop { IfErr result (λ e. e ≡ Stop.Budget → budget.new.limit ≡ Some budget.new.spent) }
@@ -607,7 +597,6 @@ fn smaller(
     budget: &mut Budget,
 ) -> Result<Quast, Stop>
     requires load { IsLoad load.now.nest.now load.now.reader.now load.now.access.now load.now.number }
-    requires path { IsPath load.now.reader.now place.now.path.now }
     requires right { CoversOn load.now.nest.now load.now.reader.now load.now.access.now place.now.path.now place.now.ranges.now left 12 (seen tree) }
     ensures right { IfOk result (λ t. CoversOn load.now.nest.now load.now.reader.now load.now.access.now place.now.path.now place.now.ranges.now left 12 (seen t)) }
     ensures later { IsLater budget.old budget.new }

@@ -6,12 +6,12 @@ ghost use Rattle.affc_quast.specs.Leaves.{negated};
 ghost use Rattle.affc_quast.specs.Limits.{narrow, FitsForm};
 ghost use Rattle.affc_quast.specs.Seen.{seen};
 ghost use Rattle.affc_quast.specs.Trees.{Test};
-ghost use Rattle.affc_dataflow.specs.Guesses.{CoversOn, IsPath};
+ghost use Rattle.affc_dataflow.specs.Guesses.{CoversOn};
 ghost use Rattle.affc_dataflow.specs.Searches.{IsLoad};
 
 use crate::tested::{has_none, is_narrow, source_leaf};
 use affc_drafts::{Candidate, stands};
-use affc_flow::asking::{Chosen, store_for};
+use affc_flow::asking::store_for;
 use affc_flow::load::Load;
 use affc_flow::questions::{Place, Unasked, negation, push_row, push_rows};
 use affc_quast::Quast;
@@ -200,7 +200,6 @@ pub(crate) fn leaf_of(
     budget: &mut Budget,
 ) -> Result<Option<Quast>, Stop>
     requires load { IsLoad load.now.nest.now load.now.reader.now load.now.access.now load.now.number }
-    requires path { IsPath load.now.reader.now place.now.path.now }
     ensures right { IfOk result (λ o. IfSome o (λ t. CoversOn load.now.nest.now load.now.reader.now load.now.access.now place.now.path.now place.now.ranges.now 0 0 (seen t))) }
     ensures later { IsLater budget.old budget.new }
     ensures stop { IfErr result (λ e. e ≡ Stop.Budget → budget.new.limit ≡ Some budget.new.spent) }
@@ -212,10 +211,6 @@ pub(crate) fn leaf_of(
     let Some(store) = store_for(writer, load.access.array.0) else {
         return Ok(None);
     };
-    let chosen = Chosen {
-        writer,
-        store,
-        forms: candidate.forms.as_slice(),
-    };
-    source_leaf(alloc, load, place, &chosen, asks, budget)
+    let forms = candidate.forms.as_slice();
+    source_leaf(alloc, load, place, writer, store, forms, asks, budget)
 }

@@ -1,6 +1,7 @@
 //! The search for last-write trees.
 #![tactic(auto)]
 
+mod asked;
 mod divided;
 mod finding;
 mod grown;

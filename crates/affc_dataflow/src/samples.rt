@@ -5,14 +5,14 @@ ghost use Rattle.affc_quast.specs.Paths.{IsNear};
 ghost use Rattle.affc_split.specs.Budgets.{IsLater};
 ghost use Rattle.affc_dataflow.specs.Searches.{IsLoad};
 
+use crate::asked::{Question, input_questions, source_questions};
 use crate::growth::{Growth, Site, fitted_candidate};
 use crate::guess::first_open;
 use affc_ast::tree::Instance;
 use affc_drafts::{Candidate, through, value_of};
-use affc_flow::asking::{Chosen, store_for};
-use affc_flow::listing::{add_input, add_named};
+use affc_flow::asking::store_for;
 use affc_flow::load::Load;
-use affc_flow::questions::{Place, Question, Unasked, gap};
+use affc_flow::questions::{Place, Unasked, gap};
 use affc_latest::{Reading, source_of};
 use affc_nest::Division;
 use affc_order::order::shared;
@@ -74,29 +74,24 @@ fn first_point(
     }
 }
 
-/// Adds the questions whether a candidate is the source.
-fn add_candidate(
+/// The questions whether a candidate is the source.
+fn candidate_questions(
     alloc: Global,
     load: &Load<'_>,
     place: &Place<'_>,
     candidate: &Candidate,
-    out: &mut Vec<Question>,
-) -> Result<(), Unasked>
+) -> Result<Vec<Question>, Unasked>
     requires load { IsLoad load.now.nest.now load.now.reader.now load.now.access.now load.now.number }
 {
     let part = candidate.part as usize;
     let Some(writer) = load.nest.entries.as_slice().get(part) else {
-        return Ok(());
+        return Ok(Vec::new(alloc));
     };
-    let Some(store) = store_for(writer, load.access.array.0) else {
-        return Ok(());
-    };
-    let chosen = Chosen {
-        writer,
-        store,
-        forms: candidate.forms.as_slice(),
-    };
-    add_named(alloc, load, place, &chosen, out)
+    if store_for(writer, load.access.array.0).is_none() {
+        return Ok(Vec::new(alloc));
+    }
+    let forms = candidate.forms.as_slice();
+    source_questions(alloc, load, place, candidate.part, forms)
 }
 
 /// The questions whether a candidate is the source, or without one whether there is none.
@@ -108,13 +103,12 @@ fn questions_of(
 ) -> Result<Vec<Question>, AllocError>
     requires load { IsLoad load.now.nest.now load.now.reader.now load.now.access.now load.now.number }
 {
-    let mut questions = Vec::new(alloc);
-    let added = match candidate {
-        None => add_input(alloc, load, place, &mut questions),
-        Some(candidate) => add_candidate(alloc, load, place, candidate, &mut questions),
+    let listed = match candidate {
+        None => input_questions(alloc, load, place),
+        Some(candidate) => candidate_questions(alloc, load, place, candidate),
     };
-    match added {
-        Ok(()) => Ok(questions),
+    match listed {
+        Ok(questions) => Ok(questions),
         Err(Unasked::Large) => Ok(Vec::new(alloc)),
         Err(Unasked::Memory) => Err(AllocError),
     }

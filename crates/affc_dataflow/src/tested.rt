@@ -1,22 +1,22 @@
 //! Leaves that are tested by their questions, under the rows of a path.
-ghost use Rattle.std.specs.Prelude.{◌≡◌, ◌^◌, ◌≤◌, ℤ, unsigned_abs, List, map, IsTrue, IfOk, IfErr, IfSome, Some};
+ghost use Rattle.std.specs.Prelude.{◌≡◌, ◌^◌, ◌≤◌, ℤ, unsigned_abs, List, map, IsTrue, IfOk, IfErr, IfSome, Some, None};
 ghost use Rattle.std.specs.List.{All};
 ghost use Rattle.affc_system.specs.Boxes.{InBox};
 ghost use Rattle.affc_system.specs.Systems.{IsPoint};
 ghost use Rattle.affc_split.specs.Budgets.{IsLater};
 ghost use Rattle.affc_quast.specs.Limits.{narrow, FitsForm};
 ghost use Rattle.affc_quast.specs.Seen.{seen};
-ghost use Rattle.affc_flow.specs.Asked.{asked, all_named, input_asked};
+ghost use Rattle.affc_flow.specs.Questions.{leaf_questions};
 ghost use Rattle.affc_flow.specs.Laws.{NoneHasAPoint};
-ghost use Rattle.affc_dataflow.specs.Guesses.{CoversOn, IsPath};
+ghost use Rattle.affc_dataflow.specs.Guesses.{asked, leaf_under, CoversOn};
 ghost use Rattle.affc_dataflow.specs.Searches.{IsLoad};
 ghost use Rattle.affc_flow.specs.Writers.{Writes};
 
-use affc_flow::asking::Chosen;
-use affc_flow::listing::{add_input, add_named};
+use crate::asked::{Question, input_questions, source_questions};
 use affc_flow::load::Load;
-use affc_flow::questions::{Place, Question, Unasked, have_columns};
+use affc_flow::questions::{Place, Unasked, have_columns};
 use affc_nest::lists::copied;
+use affc_nest::{Access, Entry};
 use affc_quast::Quast;
 use affc_rows::Form;
 use affc_split::{Answer, Budget, Stop, decide_any, within_reach};
@@ -84,18 +84,18 @@ fn is_source(
     alloc: Global,
     load: &Load<'_>,
     place: &Place<'_>,
-    chosen: &Chosen<'_>,
+    part: u32,
+    forms: &[Form],
     asks: &mut u32,
     budget: &mut Budget,
 ) -> Result<bool, Stop>
     requires load { IsLoad load.now.nest.now load.now.reader.now load.now.access.now load.now.number }
-    ensures none { IfOk result (λ t. IsTrue t → NoneHasAPoint (all_named load.now.nest.now load.now.reader.now load.now.access.now place.now.path.now place.now.ranges.now chosen.now.writer.now chosen.now.store.now chosen.now.forms.now)) }
+    ensures none { IfOk result (λ t. IsTrue t → NoneHasAPoint (leaf_questions load.now.nest.now load.now.reader.now load.now.access.now place.now.ranges.now (leaf_under load.now.reader.now place.now.path.now (Some (record { part = part; iterators = forms.now }))))) }
     ensures later { IsLater budget.old budget.new }
     ensures stop { IfErr result (λ e. e ≡ Stop.Budget → budget.new.limit ≡ Some budget.new.spent) }
 {
-    let mut questions = Vec::new(alloc);
-    match add_named(alloc, load, place, chosen, &mut questions) {
-        Ok(()) => { are_empty(alloc, questions.as_slice(), asks, budget) }
+    match source_questions(alloc, load, place, part, forms) {
+        Ok(questions) => { are_empty(alloc, questions.as_slice(), asks, budget) }
         Err(Unasked::Large) => Ok(false),
         Err(Unasked::Memory) => Err(Stop::Memory),
     }
@@ -145,34 +145,35 @@ pub(crate) fn source_leaf(
     alloc: Global,
     load: &Load<'_>,
     place: &Place<'_>,
-    chosen: &Chosen<'_>,
+    writer: &Entry,
+    store: &Access,
+    forms: &[Form],
     asks: &mut u32,
     budget: &mut Budget,
 ) -> Result<Option<Quast>, Stop>
     requires load { IsLoad load.now.nest.now load.now.reader.now load.now.access.now load.now.number }
-    requires path { IsPath load.now.reader.now place.now.path.now }
-    requires writes { Writes load.now.nest.now load.now.access.now.array.0 chosen.now.writer.now chosen.now.store.now }
+    requires writes { Writes load.now.nest.now load.now.access.now.array.0 writer.now store.now }
     ensures right { IfOk result (λ o. IfSome o (λ t. CoversOn load.now.nest.now load.now.reader.now load.now.access.now place.now.path.now place.now.ranges.now 0 0 (seen t))) }
     ensures later { IsLater budget.old budget.new }
     ensures stop { IfErr result (λ e. e ≡ Stop.Budget → budget.new.limit ≡ Some budget.new.spent) }
 {
     let columns = place.path.columns();
     let _rows = place.path.rows();
-    if chosen.forms.len() != chosen.writer.coordinates() {
+    if forms.len() != writer.coordinates() {
         return Ok(None);
     }
-    if !have_columns(columns, chosen.forms) {
+    if !have_columns(columns, forms) {
         return Ok(None);
     }
-    if !keep_limits(chosen.forms) {
+    if !keep_limits(forms) {
         return Ok(None);
     }
-    if !is_source(alloc, load, place, chosen, asks, budget)? {
+    if !is_source(alloc, load, place, writer.part, forms, asks, budget)? {
         return Ok(None);
     }
-    let forms = copied(alloc, chosen.forms)?;
+    let forms = copied(alloc, forms)?;
     Ok(Some(Quast::Source {
-        part: chosen.writer.part,
+        part: writer.part,
         forms,
     }))
 }
@@ -188,13 +189,12 @@ fn is_input(
     budget: &mut Budget,
 ) -> Result<bool, Stop>
     requires load { IsLoad load.now.nest.now load.now.reader.now load.now.access.now load.now.number }
-    ensures none { IfOk result (λ t. IsTrue t → NoneHasAPoint (input_asked load.now.nest.now load.now.reader.now load.now.access.now place.now.path.now place.now.ranges.now)) }
+    ensures none { IfOk result (λ t. IsTrue t → NoneHasAPoint (leaf_questions load.now.nest.now load.now.reader.now load.now.access.now place.now.ranges.now (leaf_under load.now.reader.now place.now.path.now None))) }
     ensures later { IsLater budget.old budget.new }
     ensures stop { IfErr result (λ e. e ≡ Stop.Budget → budget.new.limit ≡ Some budget.new.spent) }
 {
-    let mut questions = Vec::new(alloc);
-    match add_input(alloc, load, place, &mut questions) {
-        Ok(()) => { are_empty(alloc, questions.as_slice(), asks, budget) }
+    match input_questions(alloc, load, place) {
+        Ok(questions) => { are_empty(alloc, questions.as_slice(), asks, budget) }
         Err(Unasked::Large) => Ok(false),
         Err(Unasked::Memory) => Err(Stop::Memory),
     }
@@ -209,7 +209,6 @@ pub(crate) fn input_leaf(
     budget: &mut Budget,
 ) -> Result<Option<Quast>, Stop>
     requires load { IsLoad load.now.nest.now load.now.reader.now load.now.access.now load.now.number }
-    requires path { IsPath load.now.reader.now place.now.path.now }
     ensures right { IfOk result (λ o. IfSome o (λ t. CoversOn load.now.nest.now load.now.reader.now load.now.access.now place.now.path.now place.now.ranges.now 0 0 (seen t))) }
     ensures later { IsLater budget.old budget.new }
     ensures stop { IfErr result (λ e. e ≡ Stop.Budget → budget.new.limit ≡ Some budget.new.spent) }

@@ -1,11 +1,9 @@
 //! Questions in groups, and the ranges of their columns.
-ghost use Rattle.std.specs.Prelude.{◌≡◌, ◌∷◌, [], IfOk, IfSome};
+ghost use Rattle.std.specs.Prelude.{◌≡◌, IfOk, IfSome};
 ghost use Rattle.affc_products.specs.Groups.{group_systems};
 
-use affc_products::{Block, Group};
-use affc_rows::Form;
+use affc_products::{Block, Group, no_tail};
 use affc_system::{BoxOf, System};
-use sqlite_items::Items;
 use std::alloc::{AllocError, Global};
 
 /// Questions in product form, and the ranges of their columns behind those of a leaf.
@@ -13,15 +11,6 @@ use std::alloc::{AllocError, Global};
 pub struct Ranged {
     pub group: Group,
     pub behind: BoxOf,
-}
-
-/// The last factor of a product that has no rows there.
-pub fn no_tail(alloc: Global) -> Result<Items<Items<Form>>, AllocError>
-    ensures { IfOk result (λ t. t ≡ [] ∷ []) }
-{
-    let mut tails = Items::new(alloc);
-    tails.push(Items::new(alloc))?;
-    Ok(tails)
 }
 
 /// The systems of a group, each with all its rows, if all keep the limits.

@@ -1,8 +1,9 @@
 -- Items put behind others.
-use Rattle.std.proofs.Common.{◌≡◌, ℕ, Option, Some, None, List, [], ◌∷◌, ◌++◌, map, flat_map, refl, sym, ap, subst, inl, inr, ◌∙◌}
+use Rattle.std.proofs.Common.{◌≡◌, ℕ, ℤ, Option, Some, None, List, [], ◌∷◌, ◌++◌, map, flat_map, refl, sym, ap, ap₂, subst, inl, inr, ◌∙◌}
 use Rattle.std.specs.Prelude.{slice_get}
 use Rattle.std.proofs.lemmas.List.{map-append}
 use Rattle.affc_rows.specs.Forms.{Affine}
+use Rattle.affc_system.specs.Systems.{Rows}
 use Rattle.affc_trace.specs.Law.{IsIn}
 use Rattle.affc_trace.proofs.EndedReads.{append_assoc}
 use Rattle.affc_trace.proofs.LastStores.{append_nil}
@@ -15,7 +16,9 @@ use Rattle.affc_nest.specs.declared.nest.Nest.{Nest}
 use Rattle.affc_nest.proofs.QuestionLemmas.{stands_in}
 use Rattle.affc_sched.specs.Touched.{Each}
 use Rattle.affc_sched.specs.Questions as sched
-use Rattle.affc_flow.specs.Questions as flow
+use Rattle.affc_products.specs.Groups.{group_systems}
+use Rattle.affc_questions.specs.Listed.{in_ranges}
+use Rattle.affc_questions.specs.declared.ranged.Ranged.{Ranged}
 use Rattle.affc_check.specs.list.Held.{legality_item, flow_item}
 use Rattle.affc_check.specs.list.Items.{Question}
 
@@ -45,9 +48,16 @@ pub by_systems : (qs : List sched.Question) → map Question (map (λ (q : sched
 by_systems [] = refl
 by_systems (q ∷ qs) = ap (λ is. Question q.system ∷ is) (by_systems qs)
 
-pub by_flow : (qs : List flow.Question) → map Question (map (λ (q : flow.Question). q.system) qs) ≡ map flow_item qs
-by_flow [] = refl
-by_flow (q ∷ qs) = ap (λ is. Question q.system ∷ is) (by_flow qs)
+-- those of groups, in whatever ranges
+pub by_groups : (ranges : List (ℤ × ℤ)) (rs : List Ranged) → map Question (flat_map group_systems (map (λ (r : Ranged). r.group) rs)) ≡ map flow_item (flat_map (in_ranges ranges) rs)
+by_groups ranges [] = refl
+by_groups ranges (r ∷ rs) =
+    map-append Question (group_systems r.group) (flat_map group_systems (map (λ (r : Ranged). r.group) rs)) ∙ ap₂ (λ xs ys. xs ++ ys) (each (group_systems r.group)) (by_groups ranges rs)
+    ∙ sym (map-append flow_item (in_ranges ranges r) (flat_map (in_ranges ranges) rs))
+  where
+    each : (ss : List Rows) → map Question ss ≡ map flow_item (map (λ s. record { system = s; ranges = ranges ++ r.behind }) ss)
+    each [] = refl
+    each (s ∷ ss) = ap (λ is. Question s ∷ is) (each ss)
 
 -- ---- What is known of each
 

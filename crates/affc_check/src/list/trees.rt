@@ -19,9 +19,20 @@ use affc_nest::{Access, Entry, Nest};
 use affc_products::Group;
 use affc_quast::leaves::{Leaf, leaves};
 use affc_quast::{Flow, Quast};
-use affc_questions::leaf_questions;
+use affc_questions::{Ranged, leaf_questions};
 use sqlite_items::Items;
 use std::alloc::{AllocError, Global};
+
+/// Adds groups, whatever the ranges of their columns are.
+fn add_ranged(ranged: Vec<Ranged>, out: &mut Vec<Group>) -> Result<(), AllocError>
+    ensures { OnOk result (out.new.items ≡ out.old.items ++ map (λ r. r.group) ranged.items) }
+{
+    for each in ranged {
+        let Ranged { group, behind: _ } = each;
+        out.push(group)?;
+    }
+    Ok(())
+}
 
 /// Adds the questions of a leaf.
 fn add_leaf(
@@ -38,9 +49,8 @@ fn add_leaf(
     requires path { IsPath nest.now (length nest.now.params + coordinates reader.now) (leaf_seen leaf.now) }
     ensures { OnOk result (part_items out.new.items ≡ part_items out.old.items ++ leaf_items nest.now reader.now load.now (leaf_seen leaf.now)) }
 {
-    let mut groups = leaf_questions(alloc, nest, reader, load, leaf)?;
-    out.append(&mut groups)?;
-    Ok(())
+    let ranged = leaf_questions(alloc, nest, reader, load, leaf)?;
+    add_ranged(ranged, out)
 }
 
 /// Adds the questions of these leaves. The recursion is into halves, since there may be many.

@@ -1,13 +1,7 @@
 use Rattle.std.proofs.Common.{arith}
 use Rattle.affc_quast.specs.Seen.{seen}
-use Rattle.affc_dataflow.proofs.GuessLemmas.{whole_path, whole_covers}
+use Rattle.affc_dataflow.proofs.GuessLemmas.{whole_covers}
 use Rattle.affc_dataflow.proofs.grown.guessed.Goals as goal
-
-pub tree_of-requires-clause-path : goal.tree_of-requires-clause-path
-tree_of-requires-clause-path c = whole_path c.args.load.now.reader.now
-
-pub smaller-requires-clause-path : goal.smaller-requires-clause-path
-smaller-requires-clause-path c = whole_path c.args.load.now.reader.now
 
 pub returns-clause-right : goal.returns-clause-right
 returns-clause-right c =

@@ -8,6 +8,6 @@ pub returns-then-branch-clause-right : goal.returns-then-branch-clause-right
 returns-then-branch-clause-right c =
     let l = c.args.load.now in
     let p = c.args.place.now.path.now in
-    input_right l.nest.now l.reader.now l.access.now l.number c.requires.load p c.requires.path c.args.place.now.ranges.now
+    input_right l.nest.now l.reader.now l.access.now l.number c.requires.load p c.args.place.now.ranges.now
     (rows_wide p.columns p.rows (subst (λ rows. All (IsRow p.columns) rows) c.rows-rows.ensures.rows c.rows-rows.ensures.fit))
     (c.in_ok-is_input.ensures.none c.if-branch.true)
