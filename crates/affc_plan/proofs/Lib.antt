@@ -2,6 +2,7 @@ pub mod ColumnLaws
 pub mod OperandLaws
 pub mod OperandForms
 pub mod Heads
+pub mod StepLaws
 pub mod LineLaws
 pub mod ColumnForms
 pub mod Composing
@@ -12,12 +13,10 @@ pub mod RightFolds
 pub mod FewLaws
 pub mod MapLaws
 pub mod FrontLaws
+pub mod ShorterTexts
 pub mod FoldLaws
 pub mod RightDrafts
 pub mod TimeLaws
-pub mod ProductSound
-pub mod ProductComplete
-pub mod ProductTurns
 pub mod SchedHeaders
 pub mod StopLaws
 pub mod StageLaws

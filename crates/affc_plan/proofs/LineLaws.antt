@@ -11,7 +11,7 @@ use Rattle.affc_schedtext.specs.Rules.{is_in, wrong_statements, statements_in, h
 use Rattle.affc_schedtext.specs.Seen.{line_seen}
 use Rattle.affc_schedtext.proofs.Scheduled.{all_there}
 use Rattle.affc_schedtext.proofs.Walks.{front}
-use Rattle.affc_syntax.specs.draft.Drafts.{ix}
+use Rattle.affc_schedtext.specs.Terms.{term}
 use Rattle.affc_plan.specs.Lines.{head, is_of_statement, is_of_array, wrong_statement, wrong_fold, is_wrong_statement, is_wrong_fold, wrong_from, same_number}
 
 -- ---- Numbers that stand among those before
@@ -61,10 +61,10 @@ module _ (o : Outline) where
   of_array : (before : List code.LineDraft) (earlier : List ℕ) (l : code.LineDraft) (ls : List code.LineDraft) (x : Option ℕ) → array_of o l.word.name ≡ x → AreOf (is_of_array o) before earlier
       → ((es : List ℕ) → AreOf (is_of_array o) (before ++ l ∷ []) es → wrong_from (is_wrong_fold o) (before ++ l ∷ []) ls ≡ wrong_folds o es (map line_seen ls))
       → at_if (wrong_fold o (length l.forms) x before) l.word.at ++ wrong_from (is_wrong_fold o) (before ++ l ∷ []) ls
-      ≡ elim x [ None ↦ l.word.at ∷ wrong_folds o earlier (map line_seen ls) | Some y ↦ at_if (is_in y earlier || not (is_temporary_of (length (map ix l.forms)) (array_at o (Some y)))) l.word.at ++ wrong_folds o (y ∷ earlier) (map line_seen ls) ]
+      ≡ elim x [ None ↦ l.word.at ∷ wrong_folds o earlier (map line_seen ls) | Some y ↦ at_if (is_in y earlier || not (is_temporary_of (length (map term l.forms)) (array_at o (Some y)))) l.word.at ++ wrong_folds o (y ∷ earlier) (map line_seen ls) ]
   of_array before earlier l ls None e h k = ap (λ r. l.word.at ∷ r) (k earlier (no_array before earlier l e h))
   of_array before earlier l ls (Some y) e h k =
-      (λ i. at_if (h y i || not (is_temporary_of (sym (length-map l.forms ix) i) (array_at o (Some y)))) l.word.at ++ k (y ∷ earlier) (more_array before earlier l y e h) i)
+      (λ i. at_if (h y i || not (is_temporary_of (sym (length-map l.forms term) i) (array_at o (Some y)))) l.word.at ++ k (y ∷ earlier) (more_array before earlier l y e h) i)
 
   wrong_arrays : (before : List code.LineDraft) (earlier : List ℕ) (ls : List code.LineDraft) → AreOf (is_of_array o) before earlier → wrong_from (is_wrong_fold o) before ls ≡ wrong_folds o earlier (map line_seen ls)
   wrong_arrays before earlier [] h = refl

@@ -7,8 +7,8 @@ use Rattle.std.proofs.lemmas.List.Elements.{All-cons}
 use Rattle.affc_rows.specs.Forms.{Affine, HaveColumns}
 use Rattle.affc_trace.specs.Target.{are_slight, all_slight}
 use Rattle.affc_basis.specs.Bases.{IsSquare, AreWithin, HaveCoefsWithin}
-use Rattle.affc_syntax.specs.declared.draft.draft.IxDraft as code
-use Rattle.affc_syntax.specs.draft.Drafts.{ix}
+use Rattle.affc_schedtext.specs.declared.terms.Term as code
+use Rattle.affc_schedtext.specs.Terms.{term}
 use Rattle.affc_grammar.specs.Limits.{at_if, first_token}
 use Rattle.affc_schedtext.specs.declared.outline.Outline.{Outline}
 use Rattle.affc_schedtext.specs.Outline.{dimensions_of, array_at}
@@ -26,11 +26,11 @@ use Rattle.affc_plan.proofs.OperandLaws.{slight_entry}
 use Rattle.affc_plan.proofs.Pairs.{widths}
 
 -- no expression is large where each is slight
-pub slight_all : (c : Columns) (es : List code.IxDraft) → large_forms c (map ix es) ≡ [] → are_slight_parts c es ≡ true
+pub slight_all : (c : Columns) (es : List code.Term) → large_forms c (map term es) ≡ [] → are_slight_parts c es ≡ true
 slight_all c [] h = refl
 slight_all c (e ∷ es) h =
-    let first = kept_if (slight_parts c (ix e)) (first_token (ix e)) (none_left (at_if (not (slight_parts c (ix e))) (first_token (ix e))) (large_forms c (map ix es)) h) in
-    and_from (slight_parts c (ix e)) (are_slight_parts c es) first (slight_all c es (none_right (at_if (not (slight_parts c (ix e))) (first_token (ix e))) (large_forms c (map ix es)) h))
+    let first = kept_if (slight_parts c (term e)) (first_token (term e)) (none_left (at_if (not (slight_parts c (term e))) (first_token (term e))) (large_forms c (map term es)) h) in
+    and_from (slight_parts c (term e)) (are_slight_parts c es) first (slight_all c es (none_right (at_if (not (slight_parts c (term e))) (first_token (term e))) (large_forms c (map term es)) h))
 
 -- ---- Bases
 
@@ -73,11 +73,11 @@ given_of_fold o l few r =
 pub slight_lists : (s : own.Sides) (l : line.LineDraft) (t : Sides) → sides_seen s l ≡ t → large_sides t ≡ [] → (are_slight_parts (columns_seen s.there) l.forms ≡ true) × (are_slight_parts (columns_seen s.back) l.inverse ≡ true)
 slight_lists s l t e h =
     let none : large_sides (sides_seen s l) ≡ [] = ap large_sides e ∙ h in
-    let there = large_forms (columns_seen s.there) (map ix l.forms) in
-    let back = large_forms (columns_seen s.back) (map ix l.inverse) in
+    let there = large_forms (columns_seen s.there) (map term l.forms) in
+    let back = large_forms (columns_seen s.back) (map term l.inverse) in
     (slight_all (columns_seen s.there) l.forms (none_left there back none), slight_all (columns_seen s.back) l.inverse (none_right there back none))
 
-pub lists_are : (s : own.Sides) (l : line.LineDraft) (t : Sides) (fs gs : List Affine) → sides_seen s l ≡ t → fs ≡ map (form_over (columns_seen s.there)) (map ix l.forms) → gs ≡ map (form_over (columns_seen s.back)) (map ix l.inverse)
+pub lists_are : (s : own.Sides) (l : line.LineDraft) (t : Sides) (fs gs : List Affine) → sides_seen s l ≡ t → fs ≡ map (form_over (columns_seen s.there)) (map term l.forms) → gs ≡ map (form_over (columns_seen s.back)) (map term l.inverse)
     → (fs ≡ there_forms t) × (gs ≡ back_forms t)
 lists_are s l t fs gs e f g = (f ∙ ap there_forms e, g ∙ ap back_forms e)
 

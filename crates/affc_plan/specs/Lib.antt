@@ -1,11 +1,12 @@
 pub mod Few
 pub mod Seen
 pub mod Operands
+pub mod Firsts
 pub mod Lines
 pub mod Lists
 pub mod Maps
 pub mod Composed
 pub mod Folds
 pub mod Times
+pub mod Fronts
 pub mod Stages
-pub mod Products

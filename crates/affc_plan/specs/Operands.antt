@@ -1,10 +1,12 @@
 -- The operands of an expression as forms, where each is slight.
-use Rattle.std.specs.Prelude.{◌≡◌, ℕ, ℤ, pos, negsuc, Bool, true, false, ◌||◌, if◌then◌else◌, [], ◌∷◌, length, replicate, Option, Some, None}
+use Rattle.std.specs.Prelude.{◌≡◌, ℕ, ℤ, pos, negsuc, Bool, true, false, ◌||◌, if◌then◌else◌, List, [], ◌∷◌, length, replicate, Option, Some, None}
 use Rattle.affc_rows.specs.Forms.{Affine, mixed_form}
 use Rattle.affc_trace.specs.Target.{all_slight}
 use Rattle.affc_domain.specs.Affine.{unit_of, product_form}
 use Rattle.affc_grammar.specs.Draft.{IxDraft, literal, name, negated, sum, difference, product, grouped, chosen, divided}
 use Rattle.affc_schedtext.specs.Rules.{Columns, column_named}
+use Rattle.affc_schedtext.specs.declared.terms.Step.{Step}
+use Rattle.affc_schedtext.specs.declared.terms.Step.TheVariants as s
 use Rattle.affc_plan.specs.declared.operands.Operand.{Operand}
 
 abbrev pub is_slight : Affine → Bool
@@ -40,3 +42,35 @@ operand_of c (divided at f a by_at by) = None
 abbrev pub IsOperandOver : ℕ → Option Operand → Type 0
 IsOperandOver n None = Unit {0}
 IsOperandOver n (Some a) = (is_slight a.form ≡ true) × (length a.form.coefs ≡ n)
+
+-- ---- Steps, with what is found of the operands that are left for them, the last one first
+
+abbrev pub top : List (Option Operand) → Option Operand
+top [] = None
+top (a ∷ rest) = a
+
+abbrev pub below : List (Option Operand) → List (Option Operand)
+below [] = []
+below (a ∷ rest) = rest
+
+abbrev pub opposite_last : List (Option Operand) → List (Option Operand)
+opposite_last rest = mixture (negsuc 0) (top rest) (pos 0) (top rest) ∷ below rest
+
+abbrev pub sum_last : ℤ → List (Option Operand) → List (Option Operand)
+sum_last t rest = mixture (pos 1) (top (below rest)) t (top rest) ∷ below (below rest)
+
+abbrev pub product_last : List (Option Operand) → List (Option Operand)
+product_last rest = multiple (top (below rest)) (top rest) ∷ below (below rest)
+
+abbrev pub found : Columns → Step → List (Option Operand) → List (Option Operand)
+found c (s.Literal at n) rest = operand_of c (literal at n) ∷ rest
+found c (s.Name at w) rest = operand_of c (name at w) ∷ rest
+found c (s.Negated at) rest = opposite_last rest
+found c s.Sum rest = sum_last (pos 1) rest
+found c s.Difference rest = sum_last (negsuc 0) rest
+found c (s.Product at) rest = product_last rest
+found c (s.Grouped at) rest = top rest ∷ below rest
+
+abbrev pub found_all : Columns → List Step → List (Option Operand) → List (Option Operand)
+found_all c [] rest = rest
+found_all c (s ∷ ss) rest = found_all c ss (found c s rest)

@@ -11,7 +11,6 @@ mod lists;
 pub mod lost;
 pub mod maps;
 mod operands;
-pub mod products;
 mod reading;
 mod stops;
 pub mod times;

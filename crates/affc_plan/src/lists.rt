@@ -1,13 +1,14 @@
 //! The lists of a line: their columns, their limits and their forms.
 
-ghost use Rattle.std.specs.Prelude.{◌≡◌, ◌≤◌, true, map, flat_map, IfOk};
+ghost use Rattle.std.specs.Prelude.{◌≡◌, ◌∷◌, [], ◌≤◌, reverse, true, map, flat_map, IfOk};
 ghost use Rattle.std.specs.List.{list_all};
 ghost use Rattle.affc_grammar.specs.Limits as limits;
-ghost use Rattle.affc_syntax.specs.draft.Drafts.{ix};
+ghost use Rattle.affc_schedtext.specs.Terms.{term};
 ghost use Rattle.affc_schedtext.specs.Outline as outlines;
 ghost use Rattle.affc_schedtext.specs.Rules as rules;
 ghost use Rattle.affc_schedtext.specs.Seen.{line_seen};
 ghost use Rattle.affc_plan.specs.Few.{AreFew};
+ghost use Rattle.affc_plan.specs.Firsts as firsts;
 ghost use Rattle.affc_plan.specs.Lines.{head, IsFew};
 ghost use Rattle.affc_plan.specs.Lists.{are_slight_parts};
 ghost use Rattle.affc_plan.specs.Seen.{columns_seen, sides_seen};
@@ -19,7 +20,7 @@ use affc_rows::Form;
 use affc_schedtext::draft::LineDraft;
 use affc_schedtext::outline::{Outline, array_of, iterators_of};
 use affc_schedtext::scope::Scope;
-use affc_syntax::draft::draft::IxDraft;
+use affc_schedtext::terms::{Step, Term};
 use sqlite_items::Items;
 use std::alloc::{AllocError, Global};
 
@@ -102,31 +103,69 @@ pub(crate) fn fold_sides(outline: &Outline, line: &LineDraft) -> Sides<'static>
 
 // ---- Limits
 
-/// The number of an expression's first token.
-#[tactic(auto, using(affc_syntax::proofs::draft::Outs::ix_outs))]
-fn first_token(e: &IxDraft) -> usize
-    ensures { result ≡ limits.first_token (ix e.now) }
+/// The last of the numbers, 0 where there is none, and those before it.
+fn parted(numbers: Vec<usize>) -> (usize, Vec<usize>)
+    ensures last { result.0 ≡ firsts.top (reverse numbers.items) }
+    ensures others { reverse result.1.items ≡ firsts.below (reverse numbers.items) }
 {
-    let mut here = e;
-    loop {
-        match here {
-            IxDraft::Literal { at, .. }
-            | IxDraft::Name { at, .. }
-            | IxDraft::Negated { at, .. }
-            | IxDraft::Grouped { at, .. }
-            | IxDraft::Chosen { at, .. }
-            | IxDraft::Divided { at, .. } => return *at,
-            IxDraft::Sum(left, _) | IxDraft::Difference(left, _) | IxDraft::Product { left, .. } =>
-                here = left.get(),
+    let mut numbers = numbers;
+    match numbers.pop() {
+        Some(last) => (last, numbers),
+        None => (0, numbers),
+    }
+}
+
+fn with_number(numbers: Vec<usize>, number: usize) -> Result<Vec<usize>, AllocError>
+    ensures { IfOk result (λ v. reverse v.items ≡ number ∷ reverse numbers.items) }
+{
+    let mut numbers = numbers;
+    numbers.push(number)?;
+    Ok(numbers)
+}
+
+/// The numbers of the first tokens of operands, behind a step.
+fn with_step(numbers: Vec<usize>, step: &Step) -> Result<Vec<usize>, AllocError>
+    ensures { IfOk result (λ v. reverse v.items ≡ firsts.found step.now (reverse numbers.items)) }
+{
+    match step {
+        Step::Literal { at, .. } | Step::Name { at, .. } => with_number(numbers, *at),
+        Step::Negated(at) | Step::Grouped(at) => {
+            let (_, numbers) = parted(numbers);
+            with_number(numbers, *at)
+        }
+        Step::Sum | Step::Difference | Step::Product(_) => {
+            let (_, numbers) = parted(numbers);
+            let (left, numbers) = parted(numbers);
+            with_number(numbers, left)
         }
     }
 }
 
+fn all_steps(alloc: Global, steps: &[Step]) -> Result<Vec<usize>, AllocError>
+    ensures { IfOk result (λ v. reverse v.items ≡ firsts.found_all steps.now []) }
+{
+    let mut numbers = Vec::new(alloc);
+    for step in steps {
+        numbers = with_step(numbers, step)?;
+    }
+    Ok(numbers)
+}
+
+/// The number of an expression's first token.
+#[tactic(auto, using(crate::proofs::StepLaws::walks))]
+fn first_token(alloc: Global, e: &Term) -> Result<usize, AllocError>
+    ensures { IfOk result (λ n. n ≡ limits.first_token (term e.now)) }
+{
+    let numbers = all_steps(alloc, e.steps.as_slice())?;
+    let (whole, _) = parted(numbers);
+    Ok(whole)
+}
+
 /// Whether each part of an expression is within the limits.
 #[tactic(auto, using(crate::proofs::OperandForms::parts))]
-fn is_slight(alloc: Global, columns: Columns<'_>, e: &IxDraft) -> Result<bool, AllocError>
+fn is_slight(alloc: Global, columns: Columns<'_>, e: &Term) -> Result<bool, AllocError>
     requires { AreFew columns.scope }
-    ensures { IfOk result (λ b. b ≡ rules.slight_parts (columns_seen columns.entry) (ix e.now)) }
+    ensures { IfOk result (λ b. b ≡ rules.slight_parts (columns_seen columns.entry) (term e.now)) }
 {
     match linear_operand(alloc, columns, e)? {
         Some(_) => Ok(true),
@@ -138,14 +177,14 @@ fn is_slight(alloc: Global, columns: Columns<'_>, e: &IxDraft) -> Result<bool, A
 fn first_large(
     alloc: Global,
     columns: Columns<'_>,
-    es: &[IxDraft],
+    es: &[Term],
 ) -> Result<Option<usize>, AllocError>
     requires { AreFew columns.scope }
-    ensures { IfOk result (λ p. p ≡ head (rules.large_forms (columns_seen columns.entry) (map ix es.now))) }
+    ensures { IfOk result (λ p. p ≡ head (rules.large_forms (columns_seen columns.entry) (map term es.now))) }
 {
     for e in es {
         if !is_slight(alloc, columns, e)? {
-            return Ok(Some(first_token(e)));
+            return Ok(Some(first_token(alloc, e)?));
         }
     }
     Ok(None)
@@ -209,10 +248,10 @@ pub(crate) fn first_large_of_folds(
 
 /// The form of an expression whose parts are all within the limits.
 #[tactic(auto, using(crate::proofs::OperandForms::parts))]
-fn slight_form(alloc: Global, columns: Columns<'_>, e: &IxDraft) -> Result<Form, AllocError>
+fn slight_form(alloc: Global, columns: Columns<'_>, e: &Term) -> Result<Form, AllocError>
     requires few { AreFew columns.scope }
-    requires slight { rules.slight_parts (columns_seen columns) (ix e.now) ≡ true }
-    ensures { IfOk result (λ f. f ≡ rules.form_over (columns_seen columns.entry) (ix e.now)) }
+    requires slight { rules.slight_parts (columns_seen columns) (term e.now) ≡ true }
+    ensures { IfOk result (λ f. f ≡ rules.form_over (columns_seen columns.entry) (term e.now)) }
 {
     match linear_operand(alloc, columns, e)? {
         Some(part) => Ok(part.form),
@@ -224,11 +263,11 @@ fn slight_form(alloc: Global, columns: Columns<'_>, e: &IxDraft) -> Result<Form,
 pub(crate) fn forms(
     alloc: Global,
     columns: Columns<'_>,
-    es: &[IxDraft],
+    es: &[Term],
 ) -> Result<Items<Form>, AllocError>
     requires few { AreFew columns.scope }
     requires slight { are_slight_parts (columns_seen columns) es.now ≡ true }
-    ensures { IfOk result (λ fs. fs ≡ map (rules.form_over (columns_seen columns.entry)) (map ix es.now)) }
+    ensures { IfOk result (λ fs. fs ≡ map (rules.form_over (columns_seen columns.entry)) (map term es.now)) }
 {
     let mut forms = Items::new(alloc);
     for e in es {

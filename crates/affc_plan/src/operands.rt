@@ -1,19 +1,20 @@
 //! Forms of expressions, where each part is within the limits.
 
-ghost use Rattle.std.specs.Prelude.{◌≡◌, ◌^◌, ◌≤◌, pos, negsuc, true, false, length, replicate, unsigned_abs, map, IfOk};
+ghost use Rattle.std.specs.Prelude.{◌≡◌, ◌∷◌, [], ◌^◌, ◌≤◌, All, reverse, pos, negsuc, true, false, length, replicate, unsigned_abs, map, IfOk};
 ghost use Rattle.affc_rows.specs.Forms.{mixed_form};
 ghost use Rattle.affc_trace.specs.Target.{are_slight};
 ghost use Rattle.affc_domain.specs.Affine.{unit_of, product_form};
-ghost use Rattle.affc_syntax.specs.draft.Drafts.{ix};
+ghost use Rattle.affc_schedtext.specs.Terms.{term};
 ghost use Rattle.affc_schedtext.specs.Rules.{column_named};
 ghost use Rattle.affc_schedtext.specs.Seen.{scope_seen};
 ghost use Rattle.affc_plan.specs.Few.{AreFew};
+ghost use Rattle.affc_plan.specs.Operands as spec;
 ghost use Rattle.affc_plan.specs.Operands.{is_slight, kept, mixture, multiple, operand_of, IsOperandOver};
 ghost use Rattle.affc_plan.specs.Seen.{columns_seen};
 
 use crate::columns::{Columns, column_of};
 use affc_rows::Form;
-use affc_syntax::draft::draft::IxDraft;
+use affc_schedtext::terms::{Step, Term};
 use std::alloc::{AllocError, Global};
 
 /// Whether names stand in an expression, and its form.
@@ -172,40 +173,158 @@ fn name(alloc: Global, columns: Columns<'_>, name: &str) -> Result<Option<Operan
     Ok(keep(true, form))
 }
 
+// ---- Steps
+
+/// The last of the operands, if there is one, and those before it.
+fn parted(columns: u32, operands: Vec<Option<Operand>>) -> (Option<Operand>, Vec<Option<Operand>>)
+    requires { All (IsOperandOver columns) operands.items }
+    ensures last { result.0 ≡ spec.top (reverse operands.items) }
+    ensures others { reverse result.1.items ≡ spec.below (reverse operands.items) }
+    ensures fits { IsOperandOver columns result.0 }
+    ensures fit { All (IsOperandOver columns) result.1.items }
+{
+    let mut operands = operands;
+    match operands.pop() {
+        Some(last) => (last, operands),
+        None => (None, operands),
+    }
+}
+
+/// With one more behind them.
+fn with_operand(
+    columns: u32,
+    operands: Vec<Option<Operand>>,
+    one: Option<Operand>,
+) -> Result<Vec<Option<Operand>>, AllocError>
+    requires fit { All (IsOperandOver columns) operands.items }
+    requires fits { IsOperandOver columns one }
+    ensures value { IfOk result (λ v. reverse v.items ≡ one ∷ reverse operands.items) }
+    ensures fit { IfOk result (λ v. All (IsOperandOver columns) v.items) }
+{
+    let mut operands = operands;
+    operands.push(one)?;
+    Ok(operands)
+}
+
+/// With the last one taken the other way round.
+fn with_opposite(
+    alloc: Global,
+    columns: u32,
+    operands: Vec<Option<Operand>>,
+) -> Result<Vec<Option<Operand>>, AllocError>
+    requires fit { All (IsOperandOver columns) operands.items }
+    ensures value { IfOk result (λ v. reverse v.items ≡ spec.opposite_last (reverse operands.items)) }
+    ensures fit { IfOk result (λ v. All (IsOperandOver columns) v.items) }
+{
+    let (a, operands) = parted(columns, operands);
+    let one = opposite(alloc, columns, &a)?;
+    with_operand(columns, operands, one)
+}
+
+/// With the sum of the last two, the last one `t` times.
+fn with_sum(
+    alloc: Global,
+    columns: u32,
+    t: i128,
+    operands: Vec<Option<Operand>>,
+) -> Result<Vec<Option<Operand>>, AllocError>
+    requires factor { unsigned_abs t ≤ 1 }
+    requires fit { All (IsOperandOver columns) operands.items }
+    ensures value { IfOk result (λ v. reverse v.items ≡ spec.sum_last t (reverse operands.items)) }
+    ensures fit { IfOk result (λ v. All (IsOperandOver columns) v.items) }
+{
+    let (b, operands) = parted(columns, operands);
+    let (a, operands) = parted(columns, operands);
+    let one = sum(alloc, columns, &a, t, &b)?;
+    with_operand(columns, operands, one)
+}
+
+/// With the product of the last two.
+fn with_product(
+    alloc: Global,
+    columns: u32,
+    operands: Vec<Option<Operand>>,
+) -> Result<Vec<Option<Operand>>, AllocError>
+    requires fit { All (IsOperandOver columns) operands.items }
+    ensures value { IfOk result (λ v. reverse v.items ≡ spec.product_last (reverse operands.items)) }
+    ensures fit { IfOk result (λ v. All (IsOperandOver columns) v.items) }
+{
+    let (b, operands) = parted(columns, operands);
+    let (a, operands) = parted(columns, operands);
+    let one = product(alloc, columns, &a, &b)?;
+    with_operand(columns, operands, one)
+}
+
+fn with_grouped(
+    columns: u32,
+    operands: Vec<Option<Operand>>,
+) -> Result<Vec<Option<Operand>>, AllocError>
+    requires fit { All (IsOperandOver columns) operands.items }
+    ensures value { IfOk result (λ v. reverse v.items ≡ spec.top (reverse operands.items) ∷ spec.below (reverse operands.items)) }
+    ensures fit { IfOk result (λ v. All (IsOperandOver columns) v.items) }
+{
+    let (a, operands) = parted(columns, operands);
+    with_operand(columns, operands, a)
+}
+
+/// With what a step makes of them.
+fn with_step(
+    alloc: Global,
+    columns: Columns<'_>,
+    operands: Vec<Option<Operand>>,
+    step: &Step,
+) -> Result<Vec<Option<Operand>>, AllocError>
+    requires few { AreFew columns.scope }
+    requires fit { All (IsOperandOver columns.count) operands.items }
+    ensures value { IfOk result (λ v. reverse v.items ≡ spec.found (columns_seen columns.entry) step.now (reverse operands.items)) }
+    ensures fit { IfOk result (λ v. All (IsOperandOver columns.entry.count) v.items) }
+{
+    let count = columns.count;
+    match step {
+        Step::Literal { value, .. } => {
+            let one = literal(alloc, count, *value)?;
+            with_operand(count, operands, one)
+        }
+        Step::Name { name: own, .. } => {
+            let one = name(alloc, columns, own.as_str())?;
+            with_operand(count, operands, one)
+        }
+        Step::Negated(_) => with_opposite(alloc, count, operands),
+        Step::Sum => with_sum(alloc, count, 1, operands),
+        Step::Difference => with_sum(alloc, count, -1, operands),
+        Step::Product(_) => with_product(alloc, count, operands),
+        Step::Grouped(_) => with_grouped(count, operands),
+    }
+}
+
+fn all_steps(
+    alloc: Global,
+    columns: Columns<'_>,
+    steps: &[Step],
+) -> Result<Vec<Option<Operand>>, AllocError>
+    requires { AreFew columns.scope }
+    ensures value { IfOk result (λ v. reverse v.items ≡ spec.found_all (columns_seen columns.entry) steps.now []) }
+    ensures fit { IfOk result (λ v. All (IsOperandOver columns.entry.count) v.items) }
+{
+    let mut operands = Vec::new(alloc);
+    for step in steps {
+        operands = with_step(alloc, columns, operands, step)?;
+    }
+    Ok(operands)
+}
+
 /// The form of an expression, where each part of it is slight.
-#[tactic(auto, using(affc_syntax::proofs::draft::Outs::ix_outs))]
+#[tactic(auto, using(crate::proofs::StepLaws::walks))]
 pub(crate) fn linear_operand(
     alloc: Global,
     columns: Columns<'_>,
-    e: &IxDraft,
+    e: &Term,
 ) -> Result<Option<Operand>, AllocError>
     requires { AreFew columns.scope }
-    ensures form { IfOk result (λ r. r ≡ operand_of (columns_seen columns.entry) (ix e.now)) }
+    ensures form { IfOk result (λ r. r ≡ operand_of (columns_seen columns.entry) (term e.now)) }
     ensures fits { IfOk result (λ r. IsOperandOver columns.entry.count r) }
 {
-    match e {
-        IxDraft::Literal { value, .. } => literal(alloc, columns.count, *value),
-        IxDraft::Name { name: own, .. } => name(alloc, columns, own.as_str()),
-        IxDraft::Negated { of, .. } => {
-            let a = linear_operand(alloc, columns, of.get())?;
-            opposite(alloc, columns.count, &a)
-        }
-        IxDraft::Sum(a, b) => {
-            let a = linear_operand(alloc, columns, a.get())?;
-            let b = linear_operand(alloc, columns, b.get())?;
-            sum(alloc, columns.count, &a, 1, &b)
-        }
-        IxDraft::Difference(a, b) => {
-            let a = linear_operand(alloc, columns, a.get())?;
-            let b = linear_operand(alloc, columns, b.get())?;
-            sum(alloc, columns.count, &a, -1, &b)
-        }
-        IxDraft::Product { left, right, .. } => {
-            let a = linear_operand(alloc, columns, left.get())?;
-            let b = linear_operand(alloc, columns, right.get())?;
-            product(alloc, columns.count, &a, &b)
-        }
-        IxDraft::Grouped { inside, .. } => linear_operand(alloc, columns, inside.get()),
-        IxDraft::Chosen { .. } | IxDraft::Divided { .. } => Ok(None),
-    }
+    let operands = all_steps(alloc, columns, e.steps.as_slice())?;
+    let (whole, _) = parted(columns.count, operands);
+    Ok(whole)
 }

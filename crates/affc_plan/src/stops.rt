@@ -6,7 +6,6 @@ ghost use Rattle.affc_syntax.specs.draft.Symbols.{seen};
 ghost use Rattle.affc_plan.specs.Stages.{IsStopBehind, IsReach, IsDraftOf, IsFrontPlace, SyntaxFault};
 
 use crate::front::longest;
-use crate::products::first_product;
 use affc_lex::lex;
 use affc_lex::token::{LexFault, Token};
 use affc_parse::place::place_of;
@@ -15,12 +14,13 @@ use affc_schedtext::draft::Draft;
 use affc_schedtext::lines::read_draft;
 use affc_schedtext::outline::Outline;
 use affc_schedtext::plan::SchedFault;
+use affc_schedtext::products::first_product;
 use affc_syntax::ahead::Stop;
 use affc_syntax::draft::symbol::Symbol;
 use std::alloc::{AllocError, Global};
 
-/// How many brackets may be open at once.
-const ROOM: u32 = 4096;
+/// How many brackets may be open at once: all of a text below 4 GiB.
+const ROOM: u32 = 4294967295;
 
 /// The first product among the first so many symbols, or else the symbol behind them.
 fn stop_behind(alloc: Global, symbols: &[Symbol<'_>], to: usize) -> Result<usize, AllocError>

@@ -2,7 +2,7 @@
 use Rattle.std.proofs.Common.{◌≡◌, ℕ, ℤ, List, [], ◌∷◌, ◌++◌, length, map, slice_get, All, Option, Some, None, refl, sym, ap, ◌∙◌, subst, arith}
 use Rattle.std.specs.Ordering.{ordering_then, nat_cmp, int_cmp}
 use Rattle.std.specs.Cmp.Lexicographic.{slice_cmp}
-use Rattle.affc_rows.specs.Forms.{Affine, values_of}
+use Rattle.affc_rows.specs.Forms.{values_of}
 use Rattle.affc_ast.specs.declared.tree.ArrayId.{ArrayId}
 use Rattle.affc_ast.specs.declared.tree.Instance.{Instance}
 use Rattle.affc_ast.specs.declared.tree.Program.{Program}
@@ -14,9 +14,9 @@ use Rattle.affc_trace.specs.Target.{time_by, time_cmp, in_order_of, target}
 use Rattle.affc_basis.specs.declared.basis.Basis.{Basis}
 use Rattle.affc_schedtext.specs.declared.plan.Plan.{Plan}
 use Rattle.affc_schedtext.specs.Folded.{fold_said}
-use Rattle.affc_schedtext.specs.Outline.{Outline, outline, statement_of, array_of}
+use Rattle.affc_schedtext.specs.Outline.{Outline, outline, statement_of}
 use Rattle.affc_schedtext.specs.Draft.{LineDraft, OrderDraft, source, time, Draft}
-use Rattle.affc_schedtext.specs.Rules.{statement_sides, fold_sides, there_forms, back_forms, statements_in, order_breaches}
+use Rattle.affc_schedtext.specs.Rules.{statement_sides, there_forms, statements_in, order_breaches}
 use Rattle.affc_schedtext.specs.Answers.{draft_of, IsMapOfLine, AreMapsOfLines, IsScheduleOfOrder, AreBasesOfLines, PlanReads}
 use Rattle.affc_schedtext.proofs.Excludes.{all_middle, same_draft}
 use Rattle.affc_schedtext.proofs.Scheduled.{within, all_there, LineOf, line_of, Kept, kept, same_number}

@@ -10,6 +10,7 @@ use Rattle.affc_syntax.specs.declared.ahead.Stop.TheVariants as s
 use Rattle.affc_syntax.specs.Readers.{mapped}
 use Rattle.affc_schedtext.specs.declared.draft.Draft as code_draft
 use Rattle.affc_schedtext.specs.Outline.{Outline}
+use Rattle.affc_schedtext.specs.Grammar.{Text}
 use Rattle.affc_schedtext.specs.Draft.{text_draft}
 use Rattle.affc_schedtext.specs.Reading.{read_text}
 use Rattle.affc_schedtext.specs.Drafting.{text}
@@ -32,6 +33,10 @@ mapped_deep : {A D : Type 0} (f : A → D) (x : Read Symbol A) → mapped f x �
 mapped_deep f (Ok x) e = absurd (cc)
 mapped_deep f (Err (At ts)) e = absurd (cc)
 mapped_deep f (Err Deep) e = refl
+
+-- nothing is left behind a text that is read
+pub ended : (o : Outline) (room : ℕ) (ss : List Symbol) (c : Text o) (rest : List Symbol) → read_text o room ss ≡ Ok (c, rest) → rest ≡ []
+ended o room ss c rest e = text_end o (length ss) room ss (text_draft c) rest (text_is o room ss ∙ ap (mapped text_draft) e)
 
 drop_within : (ss : List Symbol) (n : ℕ) → drop (length ss - length (drop n ss)) ss ≡ drop n ss
 drop_within ss zero = let e : length ss - length ss ≡ 0 = omega arith in ap (λ m. drop m ss) e

@@ -56,7 +56,7 @@ product_stays before rest at p =
 module _ (text : List ℕ) (o : Outline) where
   -- ---- One way to spell a text
 
-  same_tokens : (a b : Spells text o) → a.tokens ≡ b.tokens
+  pub same_tokens : (a b : Spells text o) → a.tokens ≡ b.tokens
   same_tokens a b = one_list text a.tokens b.tokens a.lexes b.lexes
 
   same_written : (a b : Spells text o) → a.written ≡ b.written
@@ -65,7 +65,7 @@ module _ (text : List ℕ) (o : Outline) where
   pub same_draft : (a b : Spells text o) → draft_of a ≡ draft_of b
   same_draft a b = ap text_draft (same_written a b)
 
-  same_breaches : (a b : Spells text o) → breaches_of a ≡ breaches_of b
+  pub same_breaches : (a b : Spells text o) → breaches_of a ≡ breaches_of b
   same_breaches a b = (λ i. breaches o (length (same_tokens a b i)) (same_draft a b i))
 
   -- ---- Causes that a text which is spelled out doesn't have

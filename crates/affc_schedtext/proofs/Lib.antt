@@ -8,7 +8,8 @@ pub mod Turns
 pub mod DraftExact
 pub mod StageExact
 pub mod Sights
-pub mod Ends
+pub mod Steps
+pub mod TermReads
 pub mod Shrinks
 pub mod Untils
 pub mod Outlines
@@ -23,3 +24,7 @@ pub mod Empty
 pub mod Slight
 pub mod FoldedArrays
 pub mod Agree
+pub mod ProductSound
+pub mod ProductComplete
+pub mod ProductTurns
+pub mod VerdictsSay

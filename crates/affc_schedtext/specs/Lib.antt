@@ -2,6 +2,8 @@ pub mod Outline
 pub mod Grammar
 pub mod Reading
 pub mod Drafting
+pub mod Terms
+pub mod TermReading
 pub mod Draft
 pub mod Rules
 pub mod Answers

@@ -1,59 +1,114 @@
--- The products of names among symbols, found in one pass. The public contract speaks of `IsProduct`, and of none of this.
-use Rattle.std.specs.Prelude.{ℕ, suc, Bool, true, false, ◌&&◌, ◌||◌, List, [], ◌∷◌, ◌++◌, codes, Option, Some, None, if◌then◌else◌}
+-- The first product of names among symbols, found in one pass. The public contract speaks of `IsProduct`, and of none of this.
+use Rattle.std.specs.Prelude.{ℕ, suc, Bool, true, false, ◌&&◌, ◌||◌, min, List, [], ◌∷◌, codes, Option, Some, None, reverse, is_some, if◌then◌else◌}
 use Rattle.affc_lex.specs.Bytes.{same}
-use Rattle.affc_grammar.specs.Grammar.{Symbol, is_mark_kind}
+use Rattle.affc_grammar.specs.Grammar.{Symbol, is_word_kind, is_mark_kind}
 use Rattle.affc_grammar.specs.Reading.{is_number_kind}
-use Rattle.affc_grammar.specs.Limits.{at_if}
-use Rattle.affc_schedtext.specs.Grammar.{is_name}
+use Rattle.affc_schedtext.specs.declared.products.Sign.{Sign}
+use Rattle.affc_schedtext.specs.declared.products.Sign.TheVariants.{Name, Number, Opening, Closing, Star, Plus, Minus, Other}
+use Rattle.affc_schedtext.specs.declared.products.Place.{Place}
+use Rattle.affc_schedtext.specs.declared.products.Place.TheVariants.{Behind, Before}
+use Rattle.affc_schedtext.specs.declared.products.Level.{Level}
+use Rattle.affc_schedtext.specs.declared.products.Walk as code
 
--- what was read behind an opened bracket, or from the beginning on
-pub record Level : Type 0 where
-  -- whether a name stands there
-  pub names : Bool
-  -- whether one stands in the term that isn't done
-  pub in_term : Bool
-  -- the "*" behind which a factor has to come, where a name stands in its left side
-  pub star : Option ℕ
+abbrev pub sign_of_mark : List ℕ → Sign
+sign_of_mark bytes =
+    if same bytes (codes "(") then Opening
+    else if same bytes (codes ")") then Closing
+    else if same bytes (codes "*") then Star
+    else if same bytes (codes "+") then Plus
+    else if same bytes (codes "-") then Minus
+    else Other
+
+abbrev pub sign_of : Symbol → Sign
+sign_of s = if is_word_kind s.kind then Name else if is_number_kind s.kind then Number else if is_mark_kind s.kind then sign_of_mark s.bytes else Other
 
 abbrev pub fresh : Level
-fresh = record { names = false; in_term = false; star = None }
+fresh = record { fits = true; names = false; place = Before None false }
 
--- the "*", where the factor behind it holds a name
-abbrev pub closing : Option ℕ → Bool → List ℕ
-closing None named = []
-closing (Some at) named = at_if named at
+-- ---- What stands behind another token
 
--- behind a factor
-abbrev pub with_factor : Level → Bool → Level
-with_factor l named = record { names = l.names || named; in_term = l.in_term || named; star = None }
+abbrev pub unfit : Level → Level
+unfit l = record { fits = false; names = l.names; place = Before None false }
 
-abbrev pub with_star : Level → ℕ → Level
-with_star l at = record { names = l.names; in_term = l.in_term; star = if l.in_term then Some at else None }
+abbrev pub term_behind : Place → Bool → Place
+term_behind (Behind before) named = Behind named
+term_behind (Before star signed) named = Behind (is_some star || named)
 
--- a "-" behind a "*" stands before its right side
-abbrev pub with_sign : Level → Level
-with_sign l = elim l.star [ None ↦ record { names = l.names; in_term = false; star = None } | Some at ↦ l ]
+abbrev pub can_take : Place → Bool
+can_take (Behind before) = false
+can_take (Before star signed) = true
 
-abbrev pub with_other : Level → Level
-with_other l = record { names = l.names; in_term = false; star = None }
+abbrev pub behind_atom : Level → Bool → Level
+behind_atom l named = record { fits = l.fits && can_take l.place; names = l.names || named; place = term_behind l.place named }
 
-abbrev pub is_this : List ℕ → Symbol → Bool
-is_this bytes s = is_mark_kind s.kind && same s.bytes bytes
+-- the `*` of the product that is complete with an atom
+abbrev pub closed_by : Place → Bool → Option ℕ
+closed_by (Behind before) named = None
+closed_by (Before star signed) named = if named then star else None
 
--- the "*" of each product of names, in the order in which they are complete; `outer` are the levels of the brackets round this one
-abbrev pub products_from : (at : ℕ) → (outer : List Level) → Level → List Symbol → List ℕ
-products_from at outer l [] = []
-products_from at outer l (s ∷ ss) =
-    if is_name s then closing l.star true ++ products_from (suc at) outer (with_factor l true) ss
-    else if is_number_kind s.kind then products_from (suc at) outer (with_factor l false) ss
-    else if is_this (codes "(") s then products_from (suc at) (l ∷ outer) fresh ss
-    else if is_this (codes ")") s then elim outer [
-      | [] ↦ products_from (suc at) [] (with_other l) ss
-      | o ∷ os ↦ closing o.star l.names ++ products_from (suc at) os (with_factor o l.names) ss
-    ]
-    else if is_this (codes "*") s then products_from (suc at) outer (with_star l at) ss
-    else if is_this (codes "-") s then products_from (suc at) outer (with_sign l) ss
-    else products_from (suc at) outer (with_other l) ss
+abbrev pub behind_star : ℕ → Level → Place → Level
+behind_star at l (Behind named) = record { fits = l.fits; names = l.names; place = Before (if named then Some at else None) false }
+behind_star at l (Before star signed) = unfit l
 
-abbrev pub products : List Symbol → List ℕ
-products ss = products_from 0 [] fresh ss
+abbrev pub behind_plus : Level → Place → Level
+behind_plus l (Behind named) = record { fits = l.fits; names = l.names; place = Before None false }
+behind_plus l (Before star signed) = unfit l
+
+abbrev pub behind_minus : Level → Place → Level
+behind_minus l (Behind named) = record { fits = l.fits; names = l.names; place = Before None false }
+behind_minus l (Before star false) = record { fits = l.fits; names = l.names; place = Before star true }
+behind_minus l (Before star true) = unfit l
+
+-- whether an expression stands there
+abbrev pub is_whole : Level → Bool
+is_whole l = elim l.place [ Behind named ↦ l.fits | Before star signed ↦ false ]
+
+-- ---- The pass
+
+pub record Walk : Type 0 where
+  -- the levels round this one, from the inside to the outside
+  pub outer : List Level
+  pub level : Level
+  pub found : Option ℕ
+
+abbrev pub lesser : Option ℕ → Option ℕ → Option ℕ
+lesser None o = o
+lesser (Some a) None = Some a
+lesser (Some a) (Some b) = Some (min a b)
+
+abbrev pub at_level : Walk → Level → Walk
+at_level w l = record { outer = w.outer; level = l; found = w.found }
+
+abbrev pub with_atom : Walk → Bool → Walk
+with_atom w named = record { outer = w.outer; level = behind_atom w.level named; found = lesser w.found (closed_by w.level.place named) }
+
+abbrev pub opened : Walk → Walk
+opened w = record { outer = w.level ∷ w.outer; level = fresh; found = w.found }
+
+abbrev pub with_brackets : Level → Walk → Walk
+with_brackets inside w = if is_whole inside then with_atom w inside.names else at_level w (unfit w.level)
+
+abbrev pub closed : List Level → Walk → Walk
+closed [] w = at_level w (unfit w.level)
+closed (o ∷ os) w = with_brackets w.level (record { outer = os; level = o; found = w.found })
+
+abbrev pub turn : ℕ → Walk → Sign → Walk
+turn at w Name = with_atom w true
+turn at w Number = with_atom w false
+turn at w Opening = opened w
+turn at w Closing = closed w.outer w
+turn at w Star = at_level w (behind_star at w.level w.level.place)
+turn at w Plus = at_level w (behind_plus w.level w.level.place)
+turn at w Minus = at_level w (behind_minus w.level w.level.place)
+turn at w Other = at_level w (unfit w.level)
+
+-- `at` is the number of the first of these symbols
+abbrev pub walked : (at : ℕ) → Walk → List Symbol → Walk
+walked at w [] = w
+walked at w (s ∷ ss) = walked (suc at) (turn at w (sign_of s)) ss
+
+abbrev pub start : Walk
+start = record { outer = []; level = fresh; found = None }
+
+abbrev pub walk_seen : code.Walk → Walk
+walk_seen w = record { outer = reverse w.outer.items; level = w.level; found = w.found }

@@ -1,9 +1,10 @@
 -- What the definitions see of the code's types.
 use Rattle.std.specs.Prelude.{map}
-use Rattle.affc_syntax.specs.draft.Drafts.{ix, word}
+use Rattle.affc_syntax.specs.draft.Drafts.{word}
 use Rattle.affc_grammar.specs.Reader.{Turn, going, done}
 use Rattle.affc_schedtext.specs.Outline.{Scope, any_scope, names_scope, components_scope, row_scope, back_scope, Words, these, any, Lists}
 use Rattle.affc_schedtext.specs.Draft.{LineDraft, OrderDraft, source, time, Draft}
+use Rattle.affc_schedtext.specs.Terms.{term}
 use Rattle.affc_schedtext.specs.Drafting.{Stage, folds, stmts, stmt_forms, fold_forms}
 use Rattle.affc_schedtext.specs.declared.scope.Scope as code
 use Rattle.affc_schedtext.specs.declared.scope.Scope.TheVariants as s
@@ -36,7 +37,7 @@ lists_seen l = record { there = scope_seen l.there; back = scope_seen l.back; wo
 -- ---- Drafts
 
 abbrev pub line_seen : code_line.LineDraft → LineDraft
-line_seen l = record { at = l.word.at; name = l.word.name; forms = map ix l.forms; inverse = map ix l.inverse }
+line_seen l = record { at = l.word.at; name = l.word.name; forms = map term l.forms; inverse = map term l.inverse }
 
 abbrev pub order_seen : code_order.OrderDraft → OrderDraft
 order_seen o.Source = source
@@ -48,8 +49,8 @@ draft_seen d = record { order = order_seen d.order; folds = map line_seen d.fold
 abbrev pub stage_seen : code_stage.Stage → Stage
 stage_seen (st.Folds d) = folds (draft_seen d)
 stage_seen (st.Stmts l) = stmts l.components (map line_seen l.lines)
-stage_seen (st.StmtForms l w es) = stmt_forms l.components (map line_seen l.lines) (word w) (map ix es)
-stage_seen (st.FoldForms d w es) = fold_forms (draft_seen d) (word w) (map ix es)
+stage_seen (st.StmtForms l w es) = stmt_forms l.components (map line_seen l.lines) (word w) (map term es)
+stage_seen (st.FoldForms d w es) = fold_forms (draft_seen d) (word w) (map term es)
 
 abbrev pub turn_seen : code_turn.Turn → Turn Stage Draft
 turn_seen (t.Going s) = going (stage_seen s)

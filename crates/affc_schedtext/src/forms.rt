@@ -1,63 +1,21 @@
 //! Reading forms and lists of forms. `room` is how many brackets may still be opened, `next` is the number of the next token.
 
-ghost use Rattle.std.specs.Prelude.{◌≡◌, ◌+◌, ◌≤◌, drop, length, map};
-ghost use Rattle.affc_syntax.specs.draft.Drafts.{ix};
+ghost use Rattle.std.specs.Prelude.{drop, length, map};
 ghost use Rattle.affc_syntax.specs.draft.Symbols.{seen};
 ghost use Rattle.affc_syntax.specs.Readers.{Gives};
 ghost use Rattle.affc_schedtext.specs.Drafting as drafting;
-ghost use Rattle.affc_schedtext.specs.Grammar as grammar;
 ghost use Rattle.affc_schedtext.specs.Outline as outline;
-ghost use Rattle.affc_schedtext.specs.Reading as reading;
 ghost use Rattle.affc_schedtext.specs.Seen.{scope_seen, words_seen};
+ghost use Rattle.affc_schedtext.specs.Terms.{term};
 
-use crate::scope::{Scope, Words, first_name, sees};
+use crate::reading::read_term;
+use crate::scope::{Scope, Words, first_name};
+use crate::terms::Term;
 use affc_ast::Items;
 use affc_ast::text::Text;
 use affc_syntax::ahead::{Answer, Stop, behind, behind_word, past_mark, past_word};
-use affc_syntax::draft::draft::IxDraft;
-use affc_syntax::draft::symbol::{Symbol, is_word_kind};
-use affc_syntax::expression::read_expression;
+use affc_syntax::draft::symbol::Symbol;
 use std::alloc::Global;
-
-/// Whether it is no name, or one that stands for a column.
-fn is_seen(scope: Scope<'_>, symbol: &Symbol<'_>) -> bool
-    ensures { result ≡ grammar.is_seen (scope_seen scope.entry) (seen symbol.now) }
-{
-    !is_word_kind(symbol.kind) || sees(scope, symbol.text)
-}
-
-/// Where the first name stands that stands for no column, or the end.
-fn seen_end(scope: Scope<'_>, symbols: &[Symbol<'_>], next: usize) -> usize
-    requires { next ≤ length symbols.now }
-    ensures place { result ≡ next + length (reading.seen_front (scope_seen scope.entry) (drop next (map seen symbols.now))) }
-    ensures within { result ≤ length symbols.now }
-{
-    let mut at = next;
-    while at < symbols.len() {
-        if !is_seen(scope, &symbols[at]) {
-            return at;
-        }
-        at += 1;
-    }
-    at
-}
-
-/// The form that stands here.
-pub(crate) fn form(
-    alloc: Global,
-    room: u32,
-    scope: Scope<'_>,
-    symbols: &[Symbol<'_>],
-    next: usize,
-) -> Answer<IxDraft>
-    ensures { Gives (map seen symbols.now) ix result (drafting.form (length symbols.now) room (scope_seen scope.entry) (drop next (map seen symbols.now))) }
-{
-    if symbols.len() < next {
-        return Err(Stop::At(next));
-    }
-    let end = seen_end(scope, symbols, next);
-    read_expression(alloc, false, room, &symbols[..end], next)
-}
 
 /// A form behind others.
 #[tactic(auto, using(affc_syntax::proofs::Readers::lists))]
@@ -65,13 +23,13 @@ fn form_more(
     alloc: Global,
     room: u32,
     scope: Scope<'_>,
-    forms: Items<IxDraft>,
+    forms: Items<Term>,
     symbols: &[Symbol<'_>],
     next: usize,
-) -> Answer<Items<IxDraft>>
-    ensures { Gives (map seen symbols.now) (map ix) result (drafting.form_more (length symbols.now) room (scope_seen scope.entry) tt (map ix forms) (drop next (map seen symbols.now))) }
+) -> Answer<Items<Term>>
+    ensures { Gives (map seen symbols.now) (map term) result (drafting.form_more (length symbols.now) room (scope_seen scope.entry) tt (map term forms) (drop next (map seen symbols.now))) }
 {
-    let (one, next) = form(alloc, room, scope, symbols, next)?;
+    let (one, next) = read_term(alloc, room, scope, symbols, next)?;
     let mut forms = forms;
     forms.push(one)?;
     Ok((forms, next))
@@ -82,11 +40,11 @@ fn more_forms(
     alloc: Global,
     room: u32,
     scope: Scope<'_>,
-    forms: Items<IxDraft>,
+    forms: Items<Term>,
     symbols: &[Symbol<'_>],
     next: usize,
-) -> Answer<Items<IxDraft>>
-    ensures { Gives (map seen symbols.now) (map ix) result (drafting.more_forms (length symbols.now) room (scope_seen scope.entry) (map ix forms) (drop next (map seen symbols.now))) }
+) -> Answer<Items<Term>>
+    ensures { Gives (map seen symbols.now) (map term) result (drafting.more_forms (length symbols.now) room (scope_seen scope.entry) (map term forms) (drop next (map seen symbols.now))) }
 {
     let mut forms = forms;
     let mut next = next;
@@ -105,8 +63,8 @@ fn forms(
     scope: Scope<'_>,
     symbols: &[Symbol<'_>],
     next: usize,
-) -> Answer<Items<IxDraft>>
-    ensures { Gives (map seen symbols.now) (map ix) result (drafting.forms (length symbols.now) room (scope_seen scope.entry) (drop next (map seen symbols.now))) }
+) -> Answer<Items<Term>>
+    ensures { Gives (map seen symbols.now) (map term) result (drafting.forms (length symbols.now) room (scope_seen scope.entry) (drop next (map seen symbols.now))) }
 {
     let (first, next) = form_more(alloc, room, scope, Items::new(alloc), symbols, next)?;
     more_forms(alloc, room, scope, first, symbols, next)
@@ -119,8 +77,8 @@ pub(crate) fn list(
     scope: Scope<'_>,
     symbols: &[Symbol<'_>],
     next: usize,
-) -> Answer<Items<IxDraft>>
-    ensures { Gives (map seen symbols.now) (map ix) result (drafting.list (length symbols.now) room (scope_seen scope.entry) (drop next (map seen symbols.now))) }
+) -> Answer<Items<Term>>
+    ensures { Gives (map seen symbols.now) (map term) result (drafting.list (length symbols.now) room (scope_seen scope.entry) (drop next (map seen symbols.now))) }
 {
     let next = behind(b"(", symbols, next)?;
     let (forms, next) = forms(alloc, room, scope, symbols, next)?;
@@ -133,11 +91,11 @@ fn entry(
     alloc: Global,
     room: u32,
     scope: Scope<'_>,
-    forms: Items<IxDraft>,
+    forms: Items<Term>,
     symbols: &[Symbol<'_>],
     next: usize,
-) -> Answer<Items<IxDraft>>
-    ensures { Gives (map seen symbols.now) (map ix) result (drafting.entry (length symbols.now) room (scope_seen scope.entry) (map ix forms) (drop next (map seen symbols.now))) }
+) -> Answer<Items<Term>>
+    ensures { Gives (map seen symbols.now) (map term) result (drafting.entry (length symbols.now) room (scope_seen scope.entry) (map term forms) (drop next (map seen symbols.now))) }
 {
     let next = behind(b"=", symbols, next)?;
     form_more(alloc, room, scope, forms, symbols, next)
@@ -148,11 +106,11 @@ fn free_more(
     alloc: Global,
     room: u32,
     scope: Scope<'_>,
-    forms: Items<IxDraft>,
+    forms: Items<Term>,
     symbols: &[Symbol<'_>],
     next: usize,
-) -> Answer<Items<IxDraft>>
-    ensures { Gives (map seen symbols.now) (map ix) result (drafting.free_more (length symbols.now) room (scope_seen scope.entry) tt (map ix forms) (drop next (map seen symbols.now))) }
+) -> Answer<Items<Term>>
+    ensures { Gives (map seen symbols.now) (map term) result (drafting.free_more (length symbols.now) room (scope_seen scope.entry) tt (map term forms) (drop next (map seen symbols.now))) }
 {
     match past_word(symbols, next) {
         Some((_, next)) => entry(alloc, room, scope, forms, symbols, next),
@@ -165,11 +123,11 @@ fn more_free(
     alloc: Global,
     room: u32,
     scope: Scope<'_>,
-    forms: Items<IxDraft>,
+    forms: Items<Term>,
     symbols: &[Symbol<'_>],
     next: usize,
-) -> Answer<Items<IxDraft>>
-    ensures { Gives (map seen symbols.now) (map ix) result (drafting.more_free (length symbols.now) room (scope_seen scope.entry) (map ix forms) (drop next (map seen symbols.now))) }
+) -> Answer<Items<Term>>
+    ensures { Gives (map seen symbols.now) (map term) result (drafting.more_free (length symbols.now) room (scope_seen scope.entry) (map term forms) (drop next (map seen symbols.now))) }
 {
     let mut forms = forms;
     let mut next = next;
@@ -188,8 +146,8 @@ pub(crate) fn free(
     scope: Scope<'_>,
     symbols: &[Symbol<'_>],
     next: usize,
-) -> Answer<Items<IxDraft>>
-    ensures { Gives (map seen symbols.now) (map ix) result (drafting.free (length symbols.now) room (scope_seen scope.entry) (drop next (map seen symbols.now))) }
+) -> Answer<Items<Term>>
+    ensures { Gives (map seen symbols.now) (map term) result (drafting.free (length symbols.now) room (scope_seen scope.entry) (drop next (map seen symbols.now))) }
 {
     let (first, next) = form_more(alloc, room, scope, Items::new(alloc), symbols, next)?;
     more_free(alloc, room, scope, first, symbols, next)
@@ -202,11 +160,11 @@ fn given(
     scope: Scope<'_>,
     word: &str,
     others: &[Text],
-    forms: Items<IxDraft>,
+    forms: Items<Term>,
     symbols: &[Symbol<'_>],
     next: usize,
-) -> Answer<Items<IxDraft>>
-    ensures { Gives (map seen symbols.now) (map ix) result (drafting.given (length symbols.now) room (scope_seen scope.entry) word.now others.now (map ix forms) (drop next (map seen symbols.now))) }
+) -> Answer<Items<Term>>
+    ensures { Gives (map seen symbols.now) (map term) result (drafting.given (length symbols.now) room (scope_seen scope.entry) word.now others.now (map term forms) (drop next (map seen symbols.now))) }
 {
     match first_name(others) {
         None => {
@@ -229,8 +187,8 @@ fn any_entries(
     scope: Scope<'_>,
     symbols: &[Symbol<'_>],
     next: usize,
-) -> Answer<Items<IxDraft>>
-    ensures { Gives (map seen symbols.now) (map ix) result (drafting.entries (length symbols.now) room (scope_seen scope.entry) outline.any (drop next (map seen symbols.now))) }
+) -> Answer<Items<Term>>
+    ensures { Gives (map seen symbols.now) (map term) result (drafting.entries (length symbols.now) room (scope_seen scope.entry) outline.any (drop next (map seen symbols.now))) }
 {
     match past_word(symbols, next) {
         Some((_, next)) => {
@@ -249,8 +207,8 @@ pub(crate) fn entries(
     words: Words<'_>,
     symbols: &[Symbol<'_>],
     next: usize,
-) -> Answer<Items<IxDraft>>
-    ensures { Gives (map seen symbols.now) (map ix) result (drafting.entries (length symbols.now) room (scope_seen scope.entry) (words_seen words.entry) (drop next (map seen symbols.now))) }
+) -> Answer<Items<Term>>
+    ensures { Gives (map seen symbols.now) (map term) result (drafting.entries (length symbols.now) room (scope_seen scope.entry) (words_seen words.entry) (drop next (map seen symbols.now))) }
 {
     match words {
         Words::These { first, others } => given(

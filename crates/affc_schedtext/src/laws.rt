@@ -17,6 +17,7 @@ ghost use Rattle.affc_schedtext.specs.Outline.{Outline, outline};
 ghost use Rattle.affc_schedtext.specs.Grammar.{Text, text_symbols, StopsAt};
 ghost use Rattle.affc_schedtext.specs.Folded.{IsBasisIn, fold_said};
 ghost use Rattle.affc_schedtext.specs.Reading.{read_text};
+ghost use Rattle.affc_schedtext.specs.Verdict.{VerdictsSay};
 
 /// The grammar has one way at most to write a list of symbols.
 pub fn one_text()
@@ -36,6 +37,11 @@ pub fn texts_are_read()
 /// A text that reads as a plan has no fault but want of memory.
 pub fn plans_exclude_faults()
     ensures { (text : List ℕ) (program : Program) (plan : Plan) (fault : SchedFault) → PlanReads text program plan → IsFault text program fault → fault ≡ Memory }
+{}
+
+/// Of a text with tokens, the verdict of its symbols says which fault it has, and where it has none which forms its lines have.
+pub fn verdicts_say()
+    ensures { VerdictsSay }
 {}
 
 /// An outline has an iterator for each loop round each statement, and a name for each number parameter.

@@ -8,7 +8,10 @@ pub mod laws;
 pub mod lines;
 pub mod outline;
 pub mod plan;
+pub mod products;
 pub mod program;
+mod reading;
 pub mod scope;
+pub mod terms;
 
 pub use plan::{Plan, SchedFault};

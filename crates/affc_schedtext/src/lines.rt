@@ -2,13 +2,13 @@
 
 ghost use Rattle.std.specs.Prelude.{◌≡◌, ◌++◌, ◌∷◌, [], drop, length, map, IfOk};
 ghost use Rattle.affc_syntax.specs.draft.Drafts as drafts;
-ghost use Rattle.affc_syntax.specs.draft.Drafts.{ix};
 ghost use Rattle.affc_syntax.specs.draft.Symbols.{seen};
 ghost use Rattle.affc_syntax.specs.Readers.{Gives};
 ghost use Rattle.affc_schedtext.specs.Drafting as drafting;
 ghost use Rattle.affc_schedtext.specs.Outline as outlines;
 ghost use Rattle.affc_schedtext.specs.ReadAnswers.{IsRead};
 ghost use Rattle.affc_schedtext.specs.Seen.{line_seen, draft_seen, stage_seen, turn_seen};
+ghost use Rattle.affc_schedtext.specs.Terms.{term};
 
 use crate::draft::{Draft, LineDraft, OrderDraft};
 use crate::forms::{entries, free, list};
@@ -16,12 +16,13 @@ use crate::outline::{
     Outline, dimensions_of, iterators_of, row_scope, statement_lists, subscripts,
 };
 use crate::scope::{Scope, Words, first_name};
+use crate::terms::Term;
 use affc_ast::Items;
 use affc_syntax::ahead::{
     Answer, Stop, behind, behind_word, drafted_word, first, past_mark, past_number, past_this_word,
     past_word,
 };
-use affc_syntax::draft::draft::{IxDraft, WordDraft};
+use affc_syntax::draft::draft::WordDraft;
 use affc_syntax::draft::symbol::{Symbol, is};
 use affc_syntax::expression::number_of_first;
 use std::alloc::{AllocError, Global};
@@ -43,12 +44,12 @@ pub(crate) enum Stage {
     StmtForms {
         before: TimeLines,
         word: WordDraft,
-        forms: Items<IxDraft>,
+        forms: Items<Term>,
     },
     FoldForms {
         before: Draft,
         word: WordDraft,
-        forms: Items<IxDraft>,
+        forms: Items<Term>,
     },
 }
 
@@ -79,10 +80,10 @@ fn timed(alloc: Global, before: TimeLines) -> Draft
 fn with_line(
     before: TimeLines,
     word: WordDraft,
-    forms: Items<IxDraft>,
-    inverse: Items<IxDraft>,
+    forms: Items<Term>,
+    inverse: Items<Term>,
 ) -> Result<TimeLines, AllocError>
-    ensures { IfOk result (λ l. (l.components ≡ before.components) × (map line_seen l.lines ≡ map line_seen before.lines ++ drafting.line (drafts.word word) (map ix forms) (map ix inverse) ∷ [])) }
+    ensures { IfOk result (λ l. (l.components ≡ before.components) × (map line_seen l.lines ≡ map line_seen before.lines ++ drafting.line (drafts.word word) (map term forms) (map term inverse) ∷ [])) }
 {
     let TimeLines {
         components,
@@ -100,10 +101,10 @@ fn with_line(
 fn with_fold(
     before: Draft,
     word: WordDraft,
-    forms: Items<IxDraft>,
-    inverse: Items<IxDraft>,
+    forms: Items<Term>,
+    inverse: Items<Term>,
 ) -> Result<Draft, AllocError>
-    ensures { IfOk result (λ d. draft_seen d ≡ drafting.with_fold (draft_seen before) (drafting.line (drafts.word word) (map ix forms) (map ix inverse))) }
+    ensures { IfOk result (λ d. draft_seen d ≡ drafting.with_fold (draft_seen before) (drafting.line (drafts.word word) (map term forms) (map term inverse))) }
 {
     let Draft { order, mut folds } = before;
     folds.push(LineDraft {
@@ -181,8 +182,8 @@ fn fold_inverse(
     room: u32,
     symbols: &[Symbol<'_>],
     next: usize,
-) -> Answer<Items<IxDraft>>
-    ensures { Gives (map seen symbols.now) (map ix) result (drafting.entries (length symbols.now) room (outlines.lists_by dimensions).back (outlines.lists_by dimensions).words (drop next (map seen symbols.now))) }
+) -> Answer<Items<Term>>
+    ensures { Gives (map seen symbols.now) (map term) result (drafting.entries (length symbols.now) room (outlines.lists_by dimensions).back (outlines.lists_by dimensions).words (drop next (map seen symbols.now))) }
 {
     if dimensions == 0 {
         return entries(alloc, room, Scope::Any, Words::Any, symbols, next);
@@ -202,11 +203,11 @@ fn fold_more(
     room: u32,
     before: Draft,
     word: WordDraft,
-    forms: Items<IxDraft>,
+    forms: Items<Term>,
     symbols: &[Symbol<'_>],
     next: usize,
 ) -> Answer<Turn>
-    ensures { Gives (map seen symbols.now) turn_seen result (drafting.stage_more outline.now (length symbols.now) room tt (drafting.fold_forms (draft_seen before) (drafts.word word) (map ix forms)) (drop next (map seen symbols.now))) }
+    ensures { Gives (map seen symbols.now) turn_seen result (drafting.stage_more outline.now (length symbols.now) room tt (drafting.fold_forms (draft_seen before) (drafts.word word) (map term forms)) (drop next (map seen symbols.now))) }
 {
     let dimensions = dimensions_of(outline, word.name.as_str());
     let (inverse, next) = fold_inverse(alloc, dimensions, room, symbols, next)?;
@@ -278,11 +279,11 @@ fn stmt_inverse(
     room: u32,
     before: TimeLines,
     word: WordDraft,
-    forms: Items<IxDraft>,
+    forms: Items<Term>,
     symbols: &[Symbol<'_>],
     next: usize,
 ) -> Answer<Turn>
-    ensures { Gives (map seen symbols.now) turn_seen result (drafting.stmt_more outline.now (length symbols.now) room before.components (map line_seen before.lines) (drafts.word word) (map ix forms)
+    ensures { Gives (map seen symbols.now) turn_seen result (drafting.stmt_more outline.now (length symbols.now) room before.components (map line_seen before.lines) (drafts.word word) (map term forms)
         (outlines.statement_lists outline.now before.components word.name).back (outlines.statement_lists outline.now before.components word.name).words outlines.always (drop next (map seen symbols.now))) }
 {
     let lists = statement_lists(outline, before.components, word.name.as_str());
@@ -298,11 +299,11 @@ fn unknown_more(
     room: u32,
     before: TimeLines,
     word: WordDraft,
-    forms: Items<IxDraft>,
+    forms: Items<Term>,
     symbols: &[Symbol<'_>],
     next: usize,
 ) -> Answer<Turn>
-    ensures { Gives (map seen symbols.now) turn_seen result (drafting.stmt_more outline.now (length symbols.now) room before.components (map line_seen before.lines) (drafts.word word) (map ix forms)
+    ensures { Gives (map seen symbols.now) turn_seen result (drafting.stmt_more outline.now (length symbols.now) room before.components (map line_seen before.lines) (drafts.word word) (map term forms)
         outlines.any_scope outlines.any outlines.maybe (drop next (map seen symbols.now))) }
 {
     let at = number_of_first(symbols, next);
@@ -333,11 +334,11 @@ fn stmt_more(
     room: u32,
     before: TimeLines,
     word: WordDraft,
-    forms: Items<IxDraft>,
+    forms: Items<Term>,
     symbols: &[Symbol<'_>],
     next: usize,
 ) -> Answer<Turn>
-    ensures { Gives (map seen symbols.now) turn_seen result (drafting.stage_more outline.now (length symbols.now) room tt (drafting.stmt_forms before.components (map line_seen before.lines) (drafts.word word) (map ix forms)) (drop next (map seen symbols.now))) }
+    ensures { Gives (map seen symbols.now) turn_seen result (drafting.stage_more outline.now (length symbols.now) room tt (drafting.stmt_forms before.components (map line_seen before.lines) (drafts.word word) (map term forms)) (drop next (map seen symbols.now))) }
 {
     match iterators_of(outline, word.name.as_str()) {
         Some(iterators) => match first_name(iterators) {

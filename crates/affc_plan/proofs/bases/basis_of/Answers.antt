@@ -1,6 +1,6 @@
 use Rattle.std.proofs.Common.{map, ap, ◌∙◌}
-use Rattle.affc_syntax.specs.declared.draft.draft.IxDraft.{IxDraft}
-use Rattle.affc_syntax.specs.draft.Drafts.{ix}
+use Rattle.affc_schedtext.specs.declared.terms.Term.{Term}
+use Rattle.affc_schedtext.specs.Terms.{term}
 use Rattle.affc_schedtext.specs.Rules.{form_over, fold_sides}
 use Rattle.affc_schedtext.specs.Seen.{line_seen}
 use Rattle.std.specs.Prelude.{List}
@@ -27,8 +27,8 @@ given-requires-clause-square c =
     let l = c.args.line.now in
     let t = fold_sides c.args.outline.now (line_seen l) in
     let e = lists_are s l t c.in_ok-rows.rows c.in_ok-inverse.inverse c.fold_sides-sides.ensures.sides
-    (c.in_ok-rows.ensures ∙ ap (λ (es : List IxDraft). map (form_over (columns_seen s.there)) (map ix es)) c.as_slice.ensures)
-    (c.in_ok-inverse.ensures ∙ ap (λ (es : List IxDraft). map (form_over (columns_seen s.back)) (map ix es)) c.as_slice-2.ensures) in
+    (c.in_ok-rows.ensures ∙ ap (λ (es : List Term). map (form_over (columns_seen s.there)) (map term es)) c.as_slice.ensures)
+    (c.in_ok-inverse.ensures ∙ ap (λ (es : List Term). map (form_over (columns_seen s.back)) (map term es)) c.as_slice-2.ensures) in
     (same_given t c.in_ok-rows.rows c.in_ok-inverse.inverse e.0 e.1 (given_of_fold c.args.outline.now (line_seen l) c.requires.few c.requires.right)).square
 
 pub given-requires-clause-row_bounds : goal.given-requires-clause-row_bounds
@@ -37,8 +37,8 @@ given-requires-clause-row_bounds c =
     let l = c.args.line.now in
     let t = fold_sides c.args.outline.now (line_seen l) in
     let e = lists_are s l t c.in_ok-rows.rows c.in_ok-inverse.inverse c.fold_sides-sides.ensures.sides
-    (c.in_ok-rows.ensures ∙ ap (λ (es : List IxDraft). map (form_over (columns_seen s.there)) (map ix es)) c.as_slice.ensures)
-    (c.in_ok-inverse.ensures ∙ ap (λ (es : List IxDraft). map (form_over (columns_seen s.back)) (map ix es)) c.as_slice-2.ensures) in
+    (c.in_ok-rows.ensures ∙ ap (λ (es : List Term). map (form_over (columns_seen s.there)) (map term es)) c.as_slice.ensures)
+    (c.in_ok-inverse.ensures ∙ ap (λ (es : List Term). map (form_over (columns_seen s.back)) (map term es)) c.as_slice-2.ensures) in
     (same_given t c.in_ok-rows.rows c.in_ok-inverse.inverse e.0 e.1 (given_of_fold c.args.outline.now (line_seen l) c.requires.few c.requires.right)).row_bounds
 
 pub given-requires-clause-inverse_bounds : goal.given-requires-clause-inverse_bounds
@@ -47,6 +47,6 @@ given-requires-clause-inverse_bounds c =
     let l = c.args.line.now in
     let t = fold_sides c.args.outline.now (line_seen l) in
     let e = lists_are s l t c.in_ok-rows.rows c.in_ok-inverse.inverse c.fold_sides-sides.ensures.sides
-    (c.in_ok-rows.ensures ∙ ap (λ (es : List IxDraft). map (form_over (columns_seen s.there)) (map ix es)) c.as_slice.ensures)
-    (c.in_ok-inverse.ensures ∙ ap (λ (es : List IxDraft). map (form_over (columns_seen s.back)) (map ix es)) c.as_slice-2.ensures) in
+    (c.in_ok-rows.ensures ∙ ap (λ (es : List Term). map (form_over (columns_seen s.there)) (map term es)) c.as_slice.ensures)
+    (c.in_ok-inverse.ensures ∙ ap (λ (es : List Term). map (form_over (columns_seen s.back)) (map term es)) c.as_slice-2.ensures) in
     (same_given t c.in_ok-rows.rows c.in_ok-inverse.inverse e.0 e.1 (given_of_fold c.args.outline.now (line_seen l) c.requires.few c.requires.right)).inverse_bounds

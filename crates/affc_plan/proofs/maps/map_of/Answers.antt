@@ -2,8 +2,8 @@ use Rattle.std.proofs.Common.{◌≤◌, length, map, sym, ap, ◌∙◌, subst,
 use Rattle.std.specs.Prelude.{List, IfNone}
 use Rattle.affc_rows.specs.Forms.{columns_of}
 use Rattle.affc_trace.specs.Inverses.{AreInverse}
-use Rattle.affc_syntax.specs.declared.draft.draft.IxDraft.{IxDraft}
-use Rattle.affc_syntax.specs.draft.Drafts.{ix}
+use Rattle.affc_schedtext.specs.declared.terms.Term.{Term}
+use Rattle.affc_schedtext.specs.Terms.{term}
 use Rattle.affc_schedtext.specs.Rules.{form_over, statement_sides}
 use Rattle.affc_schedtext.specs.Seen.{line_seen}
 use Rattle.affc_schedtext.proofs.Scheduled.{columns_over}
@@ -31,16 +31,16 @@ first_lost-requires-clause-pair c =
     let l = c.args.line.now in
     let t = statement_sides c.args.outline.now c.args.components (line_seen l) in
     let e = lists_are s l t c.as_slice-3.result.now c.as_slice-4.result.now c.statement_sides-sides.ensures.sides
-    (c.as_slice-3.ensures ∙ c.in_ok-there.ensures ∙ ap (λ (es : List IxDraft). map (form_over (columns_seen s.there)) (map ix es)) c.as_slice.ensures)
-    (c.as_slice-4.ensures ∙ c.in_ok-back.ensures ∙ ap (λ (es : List IxDraft). map (form_over (columns_seen s.back)) (map ix es)) c.as_slice-2.ensures) in
+    (c.as_slice-3.ensures ∙ c.in_ok-there.ensures ∙ ap (λ (es : List Term). map (form_over (columns_seen s.there)) (map term es)) c.as_slice.ensures)
+    (c.as_slice-4.ensures ∙ c.in_ok-back.ensures ∙ ap (λ (es : List Term). map (form_over (columns_seen s.back)) (map term es)) c.as_slice-2.ensures) in
     same_pair t c.as_slice-3.result.now c.as_slice-4.result.now e.0 e.1 (pair_of_line c.args.outline.now c.args.components (line_seen l) c.requires.few c.requires.some c.requires.length c.requires.right)
 
 pub first_lost-requires-clause-columns : goal.first_lost-requires-clause-columns
 first_lost-requires-clause-columns c =
     let s = c.statement_sides-sides.result in
     let l = c.args.line.now in
-    let some : 1 ≤ length (map ix l.forms) = omega (arith, c.requires.some, c.requires.right.forms) in
-    sym (ap columns_of (c.as_slice-3.ensures ∙ c.in_ok-there.ensures ∙ ap (λ (es : List IxDraft). map (form_over (columns_seen s.there)) (map ix es)) c.as_slice.ensures) ∙ columns_over (columns_seen s.there) (map ix l.forms) some)
+    let some : 1 ≤ length (map term l.forms) = omega (arith, c.requires.some, c.requires.right.forms) in
+    sym (ap columns_of (c.as_slice-3.ensures ∙ c.in_ok-there.ensures ∙ ap (λ (es : List Term). map (form_over (columns_seen s.there)) (map term es)) c.as_slice.ensures) ∙ columns_over (columns_seen s.there) (map term l.forms) some)
 
 pub invariant_of-result : goal.invariant_of-result
 invariant_of-result c =
@@ -48,8 +48,8 @@ invariant_of-result c =
     let l = c.args.line.now in
     let t = statement_sides c.args.outline.now c.args.components (line_seen l) in
     let e = lists_are s l t c.in_ok-there.there c.in_ok-back.back c.statement_sides-sides.ensures.sides
-    (c.in_ok-there.ensures ∙ ap (λ (es : List IxDraft). map (form_over (columns_seen s.there)) (map ix es)) c.as_slice.ensures)
-    (c.in_ok-back.ensures ∙ ap (λ (es : List IxDraft). map (form_over (columns_seen s.back)) (map ix es)) c.as_slice-2.ensures) in
+    (c.in_ok-there.ensures ∙ ap (λ (es : List Term). map (form_over (columns_seen s.there)) (map term es)) c.as_slice.ensures)
+    (c.in_ok-back.ensures ∙ ap (λ (es : List Term). map (form_over (columns_seen s.back)) (map term es)) c.as_slice-2.ensures) in
     let p = same_pair t c.in_ok-there.there c.in_ok-back.back e.0 e.1 (pair_of_line c.args.outline.now c.args.components (line_seen l) c.requires.few c.requires.some c.requires.length c.requires.right) in
     let i : AreInverse c.as_slice-3.result.now c.as_slice-4.result.now = subst (λ o. IfNone o (AreInverse c.as_slice-3.result.now c.as_slice-4.result.now)) c.in-None.is c.in_ok-component.ensures.none in
     record {

@@ -18,16 +18,16 @@ pub returns-in-None-clause-draft : goal.returns-in-None-clause-draft
 returns-in-None-clause-draft c =
     let text = c.args.text.now in
     let ss = c.in_ok-symbols.symbols.items in
-    draft_is text c.args.outline.now (lexemes text c.args.tokens.now) 4096 (map seen ss) c.requires.lexes c.in_ok-symbols.ensures c.in-Ok.draft
-    (subst (λ xs. IsRead c.args.outline.now 4096 (map seen xs) (Ok c.in-Ok.draft)) c.deref.ensures.value c.in-Ok.ensures)
+    draft_is text c.args.outline.now (lexemes text c.args.tokens.now) 4294967295 (map seen ss) c.requires.lexes c.in_ok-symbols.ensures c.in-Ok.draft
+    (subst (λ xs. IsRead c.args.outline.now 4294967295 (map seen xs) (Ok c.in-Ok.draft)) c.deref.ensures.value c.in-Ok.ensures)
     (none_of (HasNoProduct (map seen ss)) (IsFirstProduct (map seen ss)) c.in_ok-first_product-in-Ok.field-0 c.in-None.is (subst (λ xs. MatchOption c.in_ok-first_product-in-Ok.field-0 (HasNoProduct (map seen xs)) (IsFirstProduct (map seen xs))) c.deref-in-Ok.ensures.value c.in_ok-first_product-in-Ok.ensures))
 
 pub returns-in-Ok-clause-fault : goal.returns-in-Ok-clause-fault
 returns-in-Ok-clause-fault c =
     let text = c.args.text.now in
     let ss = c.in_ok-symbols.symbols.items in
-    inl (product_stops text c.args.outline.now (lexemes text c.args.tokens.now) 4096 (map seen ss) c.requires.lexes c.in_ok-symbols.ensures c.in-Ok.draft c.in-Some.at c.place_of.result
-    (subst (λ xs. IsRead c.args.outline.now 4096 (map seen xs) (Ok c.in-Ok.draft)) c.deref.ensures.value c.in-Ok.ensures)
+    inl (product_stops text c.args.outline.now (lexemes text c.args.tokens.now) 4294967295 (map seen ss) c.requires.lexes c.in_ok-symbols.ensures c.in-Ok.draft c.in-Some.at c.place_of.result
+    (subst (λ xs. IsRead c.args.outline.now 4294967295 (map seen xs) (Ok c.in-Ok.draft)) c.deref.ensures.value c.in-Ok.ensures)
     (some_of (HasNoProduct (map seen ss)) (IsFirstProduct (map seen ss)) c.in_ok-first_product-in-Ok.field-0 c.in-Some.at c.in-Some.is (subst (λ xs. MatchOption c.in_ok-first_product-in-Ok.field-0 (HasNoProduct (map seen xs)) (IsFirstProduct (map seen xs))) c.deref-in-Ok.ensures.value c.in_ok-first_product-in-Ok.ensures))
     c.place_of.ensures)
 
@@ -36,7 +36,7 @@ returns-in-Err-At-clause-fault c =
     let text = c.args.text.now in
     let o = c.args.outline.now in
     let ss = c.in_ok-symbols.symbols.items in
-    inl (symbol_stops text o (lexemes text c.args.tokens.now) 4096 (map seen ss) c.requires.lexes c.in_ok-symbols.ensures c.in-Err-At.to c.in_ok-at-in-Err-At.at c.place_of-in-Err-At.result
-    (subst (λ xs. IsRead o 4096 (map seen xs) (Err (stop.At c.in-Err-At.to))) c.deref.ensures.value (subst (λ f. IsRead o 4096 (map seen c.deref.result.now) (Err f)) c.in-Err-At.field-0-is c.in-Err-At.ensures))
+    inl (symbol_stops text o (lexemes text c.args.tokens.now) 4294967295 (map seen ss) c.requires.lexes c.in_ok-symbols.ensures c.in-Err-At.to c.in_ok-at-in-Err-At.at c.place_of-in-Err-At.result
+    (subst (λ xs. IsRead o 4294967295 (map seen xs) (Err (stop.At c.in-Err-At.to))) c.deref.ensures.value (subst (λ f. IsRead o 4294967295 (map seen c.deref.result.now) (Err f)) c.in-Err-At.field-0-is c.in-Err-At.ensures))
     (subst (λ xs. IsStopBehind (take c.in-Err-At.to (map seen xs)) c.in_ok-at-in-Err-At.at) c.deref-in-Err-At.ensures.value c.in_ok-at-in-Err-At.ensures)
     c.place_of-in-Err-At.ensures)

@@ -14,11 +14,11 @@ returns-clause-reach c =
     let ss = map seen c.args.symbols.now in
     elim c.match-read_draft.branch [
       | in-Ok w ↦
-          let r = read_ok o 4096 ss w.in-Ok.field-0 w.in-Ok.ensures in
+          let r = read_ok o 4294967295 ss w.in-Ok.field-0 w.in-Ok.ensures in
           subst (λ x. IfOk x (IsReach o ss)) (sym w.result-is) (reach_whole o ss r.0 (length c.args.symbols.now) (sym (length-map c.args.symbols.now seen)) r.1)
       | in-Err-At w ↦
           subst (λ x. IfOk x (IsReach o ss)) (sym w.result-is)
-          (reach_of o ss w.in-Err-At.to (read_at o 4096 ss w.in-Err-At.to (subst (λ f. IsRead o 4096 ss (Err f)) w.in-Err-At.field-0-is w.in-Err-At.ensures)))
+          (reach_of o ss w.in-Err-At.to (read_at o 4294967295 ss w.in-Err-At.to (subst (λ f. IsRead o 4294967295 ss (Err f)) w.in-Err-At.field-0-is w.in-Err-At.ensures)))
       | in-Err-Deep w ↦ subst (λ x. IfOk x (IsReach o ss)) (sym w.result-is) tt
       | in-Err-Memory w ↦ subst (λ x. IfOk x (IsReach o ss)) (sym w.result-is) tt
     ]

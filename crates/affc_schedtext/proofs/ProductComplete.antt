@@ -5,13 +5,13 @@ use Rattle.std.specs.Prelude.{MatchOption}
 use Rattle.affc_grammar.specs.Grammar.{Symbol, mark, IxText, TermText, FactorText, AtomText, term, plus, minus, factor, times, atom, negated, literal, name, grouped, chosen, divided, ix_symbols, term_symbols, factor_symbols, atom_symbols}
 use Rattle.affc_schedtext.specs.Grammar.{hold_names, IsProduct}
 use Rattle.affc_schedtext.specs.Answers.{IsFirstProduct, HasNoProduct}
-use Rattle.affc_plan.specs.declared.products.Sign.{Sign}
-use Rattle.affc_plan.specs.declared.products.Sign.TheVariants.{Name, Number, Opening, Closing, Star, Plus, Minus, Other}
-use Rattle.affc_plan.specs.declared.products.Place.{Place}
-use Rattle.affc_plan.specs.declared.products.Place.TheVariants.{Behind, Before}
-use Rattle.affc_plan.specs.declared.products.Level.{Level}
-use Rattle.affc_plan.specs.Products.{sign_of, unfit, term_behind, behind_atom, closed_by, behind_star, is_whole, Walk, lesser, at_level, with_atom, opened, closed, turn, walked, start}
-use Rattle.affc_plan.proofs.ProductSound.{names_more, grouped_names, FoundIs, walked_sound, start_sound}
+use Rattle.affc_schedtext.specs.declared.products.Sign.{Sign}
+use Rattle.affc_schedtext.specs.declared.products.Sign.TheVariants.{Name, Number, Opening, Closing, Star, Plus, Minus, Other}
+use Rattle.affc_schedtext.specs.declared.products.Place.{Place}
+use Rattle.affc_schedtext.specs.declared.products.Place.TheVariants.{Behind, Before}
+use Rattle.affc_schedtext.specs.declared.products.Level.{Level}
+use Rattle.affc_schedtext.specs.Products.{sign_of, unfit, term_behind, behind_atom, closed_by, behind_star, is_whole, Walk, lesser, at_level, with_atom, opened, closed, turn, walked, start}
+use Rattle.affc_schedtext.proofs.ProductSound.{names_more, grouped_names, FoundIs, walked_sound, start_sound}
 
 -- ---- What was found stays
 

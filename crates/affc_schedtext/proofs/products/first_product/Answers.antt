@@ -1,8 +1,8 @@
 use Rattle.std.proofs.Common.{◌≤◌, length, map, ap, ◌∙◌, arith}
 use Rattle.affc_syntax.specs.draft.Symbols.{seen}
-use Rattle.affc_plan.specs.Products.{turn, walked, walk_seen, start}
-use Rattle.affc_plan.proofs.ProductTurns.{one_turn, all_turns}
-use Rattle.affc_plan.proofs.products.first_product.Goals as goal
+use Rattle.affc_schedtext.specs.Products.{turn, walked, walk_seen, start}
+use Rattle.affc_schedtext.proofs.ProductTurns.{one_turn, all_turns}
+use Rattle.affc_schedtext.proofs.products.first_product.Goals as goal
 
 pub returns : goal.returns
 returns c =

@@ -6,8 +6,8 @@ use Rattle.affc_syntax.specs.declared.draft.symbol.Symbol.{Symbol}
 use Rattle.affc_syntax.specs.draft.Symbols.{seen}
 use Rattle.affc_schedtext.specs.Answers.{IsFirstProduct, HasNoProduct}
 use Rattle.affc_schedtext.proofs.Walks.{front}
-use Rattle.affc_plan.specs.Products.{sign_of, Walk, turn, walked, start}
-use Rattle.affc_plan.proofs.ProductComplete.{exact}
+use Rattle.affc_schedtext.specs.Products.{sign_of, Walk, turn, walked, start}
+use Rattle.affc_schedtext.proofs.ProductComplete.{exact}
 
 pub one_turn : (xs : List Symbol) (at : ℕ) (x : Symbol) (w v whole : Walk) → at < length xs → x ≡ get_or xs at x → v ≡ turn at w (sign_of (seen x)) → walked at w (map seen (drop at xs)) ≡ whole → walked (at + 1) v (map seen (drop (at + 1) xs)) ≡ whole
 one_turn xs at x w v whole lt e is h =

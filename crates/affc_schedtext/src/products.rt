@@ -3,7 +3,7 @@
 ghost use Rattle.std.specs.Prelude.{◌≡◌, map, IfOk, MatchOption};
 ghost use Rattle.affc_syntax.specs.draft.Symbols.{seen};
 ghost use Rattle.affc_schedtext.specs.Answers.{IsFirstProduct, HasNoProduct};
-ghost use Rattle.affc_plan.specs.Products as pass;
+ghost use Rattle.affc_schedtext.specs.Products as pass;
 
 use affc_lex::token::Kind;
 use affc_syntax::draft::symbol::{Symbol, is};

@@ -9,12 +9,12 @@ use Rattle.affc_lex.specs.declared.token.Kind.TheVariants as k
 use Rattle.affc_grammar.specs.Grammar.{Symbol, word, number, mark, IxText, TermText, FactorText, AtomText, term, plus, minus, factor, times, atom, negated, literal, name, grouped, ix_symbols, term_symbols, factor_symbols, atom_symbols}
 use Rattle.affc_grammar.proofs.Tests.{same_bytes}
 use Rattle.affc_schedtext.specs.Grammar.{is_name, hold_names, IsProduct}
-use Rattle.affc_plan.specs.declared.products.Sign.{Sign}
-use Rattle.affc_plan.specs.declared.products.Sign.TheVariants.{Name, Number, Opening, Closing, Star, Plus, Minus, Other}
-use Rattle.affc_plan.specs.declared.products.Place.{Place}
-use Rattle.affc_plan.specs.declared.products.Place.TheVariants.{Behind, Before}
-use Rattle.affc_plan.specs.declared.products.Level.{Level}
-use Rattle.affc_plan.specs.Products.{sign_of_mark, sign_of, unfit, term_behind, can_take, behind_atom, closed_by, behind_star, behind_plus, behind_minus, is_whole, Walk, lesser, at_level, with_atom, opened, closed, turn, walked, start}
+use Rattle.affc_schedtext.specs.declared.products.Sign.{Sign}
+use Rattle.affc_schedtext.specs.declared.products.Sign.TheVariants.{Name, Number, Opening, Closing, Star, Plus, Minus, Other}
+use Rattle.affc_schedtext.specs.declared.products.Place.{Place}
+use Rattle.affc_schedtext.specs.declared.products.Place.TheVariants.{Behind, Before}
+use Rattle.affc_schedtext.specs.declared.products.Level.{Level}
+use Rattle.affc_schedtext.specs.Products.{sign_of_mark, sign_of, unfit, term_behind, can_take, behind_atom, closed_by, behind_star, behind_plus, behind_minus, is_whole, Walk, lesser, at_level, with_atom, opened, closed, turn, walked, start}
 
 -- ---- Tokens
 
