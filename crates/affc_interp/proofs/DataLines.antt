@@ -88,6 +88,15 @@ module _ (name : List ℕ) (low high : ℤ) (text signed digits behind : List �
           (u.0, one_end behind rest more end (subst (λ b. EndsLine b more) (sym u.1) p.1.2))),
     )
 
+-- a text has at most one line of a number at its beginning
+pub one_number_line : (name : List ℕ) (low high : ℤ) (text : List ℕ) (y z : ℤ) (rest more : List ℕ) → FitsSigned w64 low → FitsSigned w64 high
+    → NumberLine name low high text y rest → NumberLine name low high text z more → (y ≡ z) × (rest ≡ more)
+one_number_line name low high text y z rest more l h p q =
+    let digits = signed_decimal y ++ p.1.0 in
+    let mine : IsInteger digits y p.1.0 = (within low high l h y p.0, ended p.1.0 rest p.1.2, refl) in
+    let u = one_integer digits y z p.1.0 q.1.0 mine (there name low high text (codes " " ++ digits) digits p.1.0 p.1.1 refl l h z more q) in
+    (u.0, one_end p.1.0 rest more p.1.2 (subst (λ b. EndsLine b more) (sym u.1) q.1.2))
+
 -- ---- Numbers with a space before each
 
 pub spaced_push : (text : List ℕ) (vs : List ℕ) (rest next : List ℕ) (v : ℕ) → SpacedTo text vs rest → IsSpaced rest v next → SpacedTo text (vs ++ v ∷ []) next

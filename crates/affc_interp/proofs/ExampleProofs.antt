@@ -8,7 +8,7 @@ use denote.Hole.Carrier.{hidden}
 use Rattle.affc_ast.specs.declared.tree.Ix.TheBlock.{shape-the_row-Ix-0, hidden-the_row-Ix-0}
 use Rattle.affc_ast.specs.declared.tree.Stmt.TheBlock.{shape-the_row-Stmt-0, hidden-the_row-Stmt-0}
 use Rattle.affc_ast.specs.declared.tree.Val.TheBlock.{shape-the_row-Val-0, hidden-the_row-Val-0}
-use Rattle.affc_interp.specs.Examples.{StepsAreEnough, DataIsTheStart, FloorsAndRemainders, ElementsAreCounted, ValuesStandInOrder, OutputsAreWritten, DataIsRead, UnmetContextIsWrong, NumbersAreTooWide}
+use Rattle.affc_interp.specs.Examples.{StepsAreEnough, DataIsTheStart, FloorsAndRemainders, ElementsAreCounted, ValuesStandInOrder, OutputsAreWritten, DataIsRead, UnmetContextIsWrong}
 
 pub steps_are_enough : StepsAreEnough
 unfolding shape-the_row-Ix-0 hidden-the_row-Ix-0 shape-the_row-Val-0 hidden-the_row-Val-0 shape-the_row-Stmt-0 hidden-the_row-Stmt-0 hidden
@@ -56,7 +56,3 @@ unmet_context_is_wrong = record {
   };
   no_data = λ p values f. true≢false (sym f.context);
 }
-
-pub numbers_are_too_wide : NumbersAreTooWide
-unfolding shape-the_row-Ix-0 hidden-the_row-Ix-0 hidden
-numbers_are_too_wide = (refl, refl, refl, refl, refl)

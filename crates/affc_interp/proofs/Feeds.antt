@@ -1,5 +1,5 @@
 -- Data is read from line to line.
-use Rattle.std.proofs.Common.{◌≡◌, ◌<◌, ◌+◌, ◌^◌, ℕ, zero, suc, ℤ, Bool, true, false, ◌&&◌, ◌==◌, List, [], ◌∷◌, ◌++◌, length, take, ◌-◌, Result, Ok, Err, Option, refl, sym, ap, subst, ◌∙◌, arith, append_assoc}
+use Rattle.std.proofs.Common.{◌≡◌, ◌<◌, ◌+◌, ◌^◌, ℕ, zero, suc, ℤ, Bool, true, false, ◌&&◌, ◌==◌, List, [], ◌∷◌, ◌++◌, length, take, Result, Ok, Err, Option, refl, sym, ap, subst, ◌∙◌, arith, append_assoc}
 use Rattle.std.specs.Prelude.{IsTrue, Vec, SomeIff}
 use Rattle.affc_ast.specs.declared.tree.Ix.{Ix}
 use Rattle.affc_ast.specs.Meaning.{extents_of}
@@ -30,7 +30,7 @@ nothing_left (x ∷ xs) e = absurd (omega arith)
 
 -- ---- No more lines
 
-no_lines : (before p : List ℤ) (values : List (List ℕ)) (text rest : List ℕ) → HasLines before [] p values text rest → ([] ≡ p) × ([] ≡ values) × (text ≡ rest)
+pub no_lines : (before p : List ℤ) (values : List (List ℕ)) (text rest : List ℕ) → HasLines before [] p values text rest → ([] ≡ p) × ([] ≡ values) × (text ≡ rest)
 no_lines before [] [] text rest h = (refl, refl, h)
 no_lines before [] (vs ∷ values) text rest h = absurd h
 no_lines before (z ∷ p) [] text rest h = absurd h
@@ -45,7 +45,7 @@ module _ (name : List ℕ) (low high : ℤ) (ps : List Param) (before : List ℤ
   abbrev number_first : List Param
   number_first = Number name low high ∷ ps
 
-  number_cut : (p : List ℤ) (values : List (List ℕ)) (rest : List ℕ) → HasLines before number_first p values text rest → (z : ℤ) × (zs : List ℤ) × (p ≡ z ∷ zs) × (next : List ℕ) × NumberLine name low high text z next × HasLines (before ++ z ∷ []) ps zs values next rest
+  pub number_cut : (p : List ℤ) (values : List (List ℕ)) (rest : List ℕ) → HasLines before number_first p values text rest → (z : ℤ) × (zs : List ℤ) × (p ≡ z ∷ zs) × (next : List ℕ) × NumberLine name low high text z next × HasLines (before ++ z ∷ []) ps zs values next rest
   number_cut [] values rest h = absurd h
   number_cut (z ∷ zs) values rest h = (z, zs, refl, h.0, h.1, h.2)
 
@@ -102,7 +102,7 @@ module _ (d : Decl) (ps : List Param) (before : List ℤ) (text : List ℕ) wher
   abbrev LineHere : List ℕ → List ℕ → Type 0
   LineHere vs next = ArrayLine d.name (element_count d before) text vs next
 
-  array_cut : (qs : List Param) (p : List ℤ) (values : List (List ℕ)) (rest : List ℕ) → HasLines before (Array d ∷ qs) p values text rest → (vs : List ℕ) × (others : List (List ℕ)) × (vs ∷ others ≡ values) × (next : List ℕ) × LineHere vs next × HasLines before qs p others next rest
+  pub array_cut : (qs : List Param) (p : List ℤ) (values : List (List ℕ)) (rest : List ℕ) → HasLines before (Array d ∷ qs) p values text rest → (vs : List ℕ) × (others : List (List ℕ)) × (vs ∷ others ≡ values) × (next : List ℕ) × LineHere vs next × HasLines before qs p others next rest
   array_cut qs p [] rest h = absurd h
   array_cut qs p (vs ∷ values) rest h = (vs, values, refl, h.0, h.1, h.2)
 

@@ -17,6 +17,7 @@ pub mod Numerals
 pub mod DataLines
 pub mod Wholes
 pub mod Feeds
+pub mod OneData
 pub mod OutputLines
 pub mod Hits
 pub mod Moves

@@ -7,11 +7,11 @@ use Rattle.affc_ast.specs.declared.tree.Ix.TheOpen as layer
 use Rattle.affc_ast.specs.declared.tree.Ix.TheOpen.{Ix-F}
 use Rattle.affc_ast.specs.Cause.{◌>>=◌}
 use Rattle.affc_ast.specs.Index.{index_step, nodes_of_ix, index_value}
+use Rattle.affc_ast.specs.Fits.{whole_step, whole_of}
 use Rattle.affc_ast.specs.Recursion.{by_ix}
 use Rattle.affc_ast.proofs.Outs.{by_ix_out}
 use Rattle.affc_interp.specs.Operands.{first_in, first_operand, row_step, operators}
-use Rattle.affc_interp.specs.Wholes.{wide_step, wide_of, with_one}
-use Rattle.affc_interp.specs.Steps.{IsAtom, IsStep, made, wide_made, right_nodes}
+use Rattle.affc_interp.specs.Steps.{IsAtom, IsStep, made, whole_made, right_nodes}
 use Rattle.affc_interp.specs.declared.step.Join.TheVariants.{Sum, Difference, Product, Least, Greatest, Remainder}
 use Rattle.affc_interp.specs.declared.step.Step.{Step}
 use Rattle.affc_interp.specs.declared.step.Step.TheVariants.{Opposite, Floor, Ceiling, Joined}
@@ -27,14 +27,14 @@ module _ (e : Ix) (l : Ix-F Ix) (is : out-Ix e ≡ l) where
   step : (a : Ix) (s : Step) → a ≡ first_in e l → row_step (map-Ix Ix ℕ operators l) ≡ suc (operators a)
       → (index_step (map-Ix Ix _ (by_ix index_step) l)).nodes ≡ 1 + nodes_of_ix a + right_nodes s
       → ((node : ℕ) (names : List ℤ) → (index_step (map-Ix Ix _ (by_ix index_step) l)).value node names ≡ index_value a (node + 1) names >>= made s node (node + 1 + nodes_of_ix a) names)
-      → ((names : List ℤ) → (wide_step (map-Ix Ix _ (by_ix wide_step) l)).value names ≡ with_one (wide_of a names) (wide_made s names))
+      → ((names : List ℤ) → whole_step (map-Ix Ix _ (by_ix whole_step) l) names ≡ whole_made s names (whole_of a names))
       → IsStep e a s
-  step a s first more nodes value wide = record {
+  step a s first more nodes value whole = record {
     first = first ∙ sym (ap (first_in e) is);
     more = at row_step e l is ∙ more;
     nodes = ap (λ x. x.nodes) (at index_step e l is) ∙ nodes;
     value = λ node names. ap (λ x. x.value node names) (at index_step e l is) ∙ value node names;
-    wide = λ names. ap (λ x. x.value names) (at wide_step e l is) ∙ wide names;
+    whole = λ names. ap (λ f. f names) (at whole_step e l is) ∙ whole names;
   }
 
 -- ---- As the code takes an expression apart
@@ -105,7 +105,3 @@ pub step_value : (e a : Ix) (s t : Step) (node : ℕ) (names : List ℤ) (x : �
 step_value e a s t node names x h is inner =
     h.value node names ∙ ap (λ q. q >>= made s node (node + 1 + nodes_of_ix a) names) (ap (λ q. index_value q (node + 1) names) h.first ∙ inner)
     ∙ ap (λ q. made q node (node + 1 + nodes_of_ix a) names x) is
-
-pub step_wide : (e a : Ix) (s t : Step) (names : List ℤ) (x : ℤ) → IsStep e a s → s ≡ t → wide_of (first_operand e) names ≡ Ok x → wide_of e names ≡ wide_made t names x
-step_wide e a s t names x h is inner =
-    h.wide names ∙ ap (λ q. with_one q (wide_made s names)) (ap (λ q. wide_of q names) h.first ∙ inner) ∙ ap (λ q. wide_made q names x) is

@@ -1,11 +1,10 @@
 -- Small examples, with values that were found by hand from the rules.
-use Rattle.std.specs.Prelude.{◌≡◌, ℕ, pos, negsuc, List, [], ◌∷◌, None, Ok, Err, true, false, codes}
-use Rattle.affc_ast.specs.declared.tree.Compare.{Compare}
+use Rattle.std.specs.Prelude.{◌≡◌, ℕ, pos, negsuc, List, [], ◌∷◌, None, Ok, Err, true, codes}
 use Rattle.affc_ast.specs.declared.tree.Decl.{Decl}
-use Rattle.affc_ast.specs.declared.tree.Ix.{Ix, Lit, Name, Add, Mul, Floord, Mod}
+use Rattle.affc_ast.specs.declared.tree.Ix.{Ix, Lit, Name, Add, Floord, Mod}
 use Rattle.affc_ast.specs.declared.tree.Param.TheVariants.{Array}
 use Rattle.affc_ast.specs.declared.tree.Program.{Program}
-use Rattle.affc_ast.specs.declared.tree.Rel.TheVariants.{Less, LessEqual}
+use Rattle.affc_ast.specs.declared.tree.Rel.TheVariants.{LessEqual}
 use Rattle.affc_ast.specs.declared.tree.Role.TheVariants.{Input, Output}
 use Rattle.affc_ast.specs.declared.tree.Stmt.{For, Assign}
 use Rattle.affc_ast.specs.declared.tree.Val.{Cast}
@@ -15,7 +14,6 @@ use Rattle.affc_ast.specs.Store.{Store}
 use Rattle.affc_interp.specs.Budget.{OutOfSteps}
 use Rattle.affc_interp.specs.DataText.{element_count, FeedReads, IsWrongLine, values_of, output_text}
 use Rattle.affc_interp.specs.Runs.{within_limit, start}
-use Rattle.affc_interp.specs.Wholes.{has_wide}
 
 -- The copy loop at N = 3 takes three turns and three assignments: six steps are enough, and five aren't.
 abbrev pub StepsAreEnough : Type 0
@@ -82,20 +80,3 @@ DataIsRead = FeedReads (codes "array out 1 2 3 4 5") rounding [] ((1 ∷ 2 ∷ 3
 -- where the context isn't met, the line behind the last is wrong
 abbrev pub UnmetContextIsWrong : Type 0
 UnmetContextIsWrong = IsWrongLine (codes "array out 0 0 0 0 0\n") (record rounding { context = never ∷ [] }) 2
-
-abbrev greatest_int64 : Ix
-greatest_int64 = Lit (pos 9223372036854775807)
-
--- 0 < (2^63 - 1) * (2^63 - 1) * (2^63 - 1)
-abbrev with_cube : Compare
-with_cube = record { rel = Less; left = Lit (pos 0); right = Mul (Mul greatest_int64 greatest_int64) greatest_int64 }
-
--- The cube takes more than 128 bits, and the square doesn't. No number behind 0 < 0, or on the right of
--- affc_mod(1, 0), is looked at.
-abbrev pub NumbersAreTooWide : Type 0
-NumbersAreTooWide =
-    (has_wide (with_cube ∷ []) [] ≡ true) ×
-    (has_wide (record with_cube { right = Mul greatest_int64 greatest_int64 } ∷ with_cube ∷ []) [] ≡ true) ×
-    (has_wide (record with_cube { right = Mul greatest_int64 greatest_int64 } ∷ []) [] ≡ false) ×
-    (has_wide (never ∷ with_cube ∷ []) [] ≡ false) ×
-    (has_wide (record with_cube { left = Mod (Lit (pos 1)) (Lit (pos 0)) } ∷ with_cube ∷ []) [] ≡ false)

@@ -11,6 +11,7 @@ pub mod Wholes
 pub mod Feeds
 pub mod Outputs
 pub mod Earlier
+pub mod Laws
 pub mod Examples
 pub mod Operands
 pub mod Steps

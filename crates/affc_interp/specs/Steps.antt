@@ -1,12 +1,11 @@
 -- The outermost operator of an expression: its first operand, and what is done with that.
-use Rattle.std.specs.Prelude.{◌≡◌, ℕ, suc, ◌+◌, ℤ, ◌+ℤ◌, ◌-ℤ◌, ◌*ℤ◌, neg_ℤ, List, Result, Ok}
+use Rattle.std.specs.Prelude.{◌≡◌, ℕ, suc, ◌+◌, ℤ, ◌+ℤ◌, ◌-ℤ◌, ◌*ℤ◌, neg_ℤ, true, ◌&&◌, List, [], ◌∷◌, Result, Ok}
 use Rattle.std.specs.Int.{int_max, int_min}
 use Rattle.affc_ast.specs.declared.tree.Ix.{Ix}
 use Rattle.affc_ast.specs.Cause.{Cause, ◌>>=◌}
+use Rattle.affc_ast.specs.Fits.{Whole, whole_on_one, whole_on_both, is_divisor, whole_of}
 use Rattle.affc_ast.specs.Index.{in_int64, divided, floor_of, ceiling_of, remainder_of, nodes_of_ix, index_value}
 use Rattle.affc_interp.specs.Operands.{first_operand, operators}
-use Rattle.affc_interp.specs.Wholes.{in_int128, quotient, with_one, wide_of}
-use Rattle.affc_interp.specs.declared.context.NoWhole.{NoWhole}
 use Rattle.affc_interp.specs.declared.step.Join.{Join}
 use Rattle.affc_interp.specs.declared.step.Join.TheVariants.{Sum, Difference, Product, Least, Greatest, Remainder}
 use Rattle.affc_interp.specs.declared.step.Step.{Step}
@@ -29,21 +28,29 @@ made (Floor n) node right names x = divided node floor_of x n
 made (Ceiling n) node right names x = divided node ceiling_of x n
 made (Joined j b) node right names x = index_value b.now right names >>= joined j node x
 
--- ---- In 128 bits
+-- ---- As whole numbers
 
-abbrev pub wide_joined : Join → ℤ → ℤ → Result ℤ NoWhole
-wide_joined Sum x y = in_int128 (x +ℤ y)
-wide_joined Difference x y = in_int128 (x -ℤ y)
-wide_joined Product x y = in_int128 (x *ℤ y)
-wide_joined Least x y = Ok (int_min x y)
-wide_joined Greatest x y = Ok (int_max x y)
-wide_joined Remainder x y = quotient remainder_of x y
+abbrev pub number : ℤ → Whole
+number z = record { value = z; defined = true }
 
-abbrev pub wide_made : Step → (names : List ℤ) → ℤ → Result ℤ NoWhole
-wide_made Opposite names x = in_int128 (neg_ℤ x)
-wide_made (Floor n) names x = quotient floor_of x n
-wide_made (Ceiling n) names x = quotient ceiling_of x n
-wide_made (Joined j b) names x = with_one (wide_of b.now names) (wide_joined j x)
+abbrev pub whole_joined : Join → Whole → Whole → Whole
+whole_joined Sum v w = whole_on_both ◌+ℤ◌ v w
+whole_joined Difference v w = whole_on_both ◌-ℤ◌ v w
+whole_joined Product v w = whole_on_both ◌*ℤ◌ v w
+whole_joined Least v w = whole_on_both int_min v w
+whole_joined Greatest v w = whole_on_both int_max v w
+whole_joined Remainder v w = record { value = remainder_of v.value w.value; defined = v.defined && w.defined && is_divisor w.value }
+
+abbrev pub whole_made : Step → (names : List ℤ) → Whole → Whole
+whole_made Opposite names w = whole_on_one neg_ℤ w
+whole_made (Floor n) names w = record { value = floor_of w.value n; defined = w.defined && is_divisor n }
+whole_made (Ceiling n) names w = record { value = ceiling_of w.value n; defined = w.defined && is_divisor n }
+whole_made (Joined j b) names w = whole_joined j w (whole_of b.now names)
+
+-- what operators in a row make, the outermost first
+abbrev pub all_made : List Step → (names : List ℤ) → Whole → Whole
+all_made [] names w = w
+all_made (s ∷ ss) names w = whole_made s names (all_made ss names w)
 
 -- ---- Both
 
@@ -65,4 +72,4 @@ pub record IsStep (e a : Ix) (s : Step) : Type 0 where
   pub more : operators e ≡ suc (operators a)
   pub nodes : nodes_of_ix e ≡ 1 + nodes_of_ix a + right_nodes s
   pub value : (node : ℕ) (names : List ℤ) → index_value e node names ≡ index_value a (node + 1) names >>= made s node (node + 1 + nodes_of_ix a) names
-  pub wide : (names : List ℤ) → wide_of e names ≡ with_one (wide_of a names) (wide_made s names)
+  pub whole : (names : List ℤ) → whole_of e names ≡ whole_made s names (whole_of a names)

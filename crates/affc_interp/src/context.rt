@@ -1,121 +1,102 @@
-//! The conditions on the parameters, which are read as whole numbers.
-ghost use Rattle.std.specs.Prelude.{◌≡◌, ◌≤◌, ◌+ℤ◌, ◌-ℤ◌, ◌*ℤ◌, neg_ℤ, pos, ◌≤ℤ◌, Ok, IfOk, IfErr, is_err, get_or, ◌&&◌};
+//! The conditions on the parameters, which are read as whole numbers of any size.
+ghost use Rattle.std.specs.Prelude.{◌≡◌, ◌<◌, ℤ, ◌-ℤ◌, pos, List, IfOk, get_or};
+ghost use Rattle.std.specs.Int.{int_max, int_min};
+ghost use Rattle.std.specs.List.{All};
 ghost use Rattle.affc_ast.specs.Fits as fits;
-ghost use Rattle.affc_ast.specs.Index.{compares, floor_of, ceiling_of, remainder_of};
-ghost use Rattle.affc_interp.specs.declared.context.NoWhole.TheVariants.{Wide};
-ghost use Rattle.affc_interp.specs.Operands as row;
+ghost use Rattle.affc_ast.specs.Fits.{is_divisor, whole_of};
+ghost use Rattle.affc_ast.specs.Index.{compares, floor_of, ceiling_of, nodes_of_ix};
+ghost use Rattle.affc_limits.specs.Digits.{capped};
+ghost use Rattle.affc_interp.specs.declared.step.Join.TheVariants as step;
 ghost use Rattle.affc_interp.specs.Operands.{operators};
-ghost use Rattle.affc_interp.specs.Steps as steps;
-ghost use Rattle.affc_interp.specs.Wholes.{in_int128, quotient, wide_of, IsWhole, is_met, either_wide, has_wide_side, has_wide};
+ghost use Rattle.affc_interp.specs.Steps.{number, whole_joined, whole_made, all_made, right_nodes};
+ghost use Rattle.affc_interp.specs.Wholes.{IsRead, is_met};
 
-use crate::index::first_operand;
 use crate::step::{Join, Step, last_step};
 use affc_ast::tree::{Compare, Ix, Rel};
+use affc_limits::whole::Whole;
+use std::alloc::{AllocError, Global};
 
-/// Why an expression gives no whole number here.
-#[derive(Clone, Copy)]
-pub enum NoWhole {
-    /// A divisor in it is below 1.
-    Undefined,
-    /// A number in it takes more than 128 bits.
-    Wide,
-}
-
-fn wide_sum(x: i128, y: i128) -> Result<i128, NoWhole>
-    ensures { result ≡ in_int128 (x +ℤ y) }
-{
-    x.checked_add(y).ok_or(NoWhole::Wide)
-}
-
-fn wide_difference(x: i128, y: i128) -> Result<i128, NoWhole>
-    ensures { result ≡ in_int128 (x -ℤ y) }
-{
-    x.checked_sub(y).ok_or(NoWhole::Wide)
-}
-
-fn wide_product(x: i128, y: i128) -> Result<i128, NoWhole>
-    ensures { result ≡ in_int128 (x *ℤ y) }
-{
-    x.checked_mul(y).ok_or(NoWhole::Wide)
-}
-
-fn wide_opposite(x: i128) -> Result<i128, NoWhole>
-    ensures { result ≡ in_int128 (neg_ℤ x) }
-{
-    x.checked_neg().ok_or(NoWhole::Wide)
-}
-
-fn wide_floor(x: i128, n: i64) -> Result<i128, NoWhole>
-    ensures { result ≡ quotient floor_of x n }
+/// The quotient, rounded down; none by a divisor below 1.
+fn floor(alloc: Global, x: &Whole, n: i64) -> Result<Option<Whole>, AllocError>
+    ensures { IfOk result (λ w. IsRead w (record { value = floor_of x.now n; defined = is_divisor n })) }
 {
     if n < 1 {
-        Err(NoWhole::Undefined)
-    } else {
-        Ok(x.div_euclid(i128::from(n)))
+        return Ok(None);
     }
+    Ok(Some(x.floor(alloc, n)?))
 }
 
-fn rounded_up(x: i128, n: i128) -> i128
-    requires { pos 1 ≤ℤ n }
-    ensures { result ≡ ceiling_of x n }
-{
-    if x > 0 {
-        (x - 1).div_euclid(n) + 1
-    } else {
-        x / n
-    }
-}
-
-fn wide_ceiling(x: i128, n: i64) -> Result<i128, NoWhole>
-    ensures { result ≡ quotient ceiling_of x n }
+/// The quotient, rounded up; none by a divisor below 1.
+fn ceiling(alloc: Global, x: &Whole, n: i64) -> Result<Option<Whole>, AllocError>
+    ensures { IfOk result (λ w. IsRead w (record { value = ceiling_of x.now n; defined = is_divisor n })) }
 {
     if n < 1 {
-        Err(NoWhole::Undefined)
-    } else {
-        Ok(rounded_up(x, i128::from(n)))
+        return Ok(None);
     }
+    let quotient = x.opposite(alloc)?.floor(alloc, n)?;
+    Ok(Some(quotient.opposite(alloc)?))
 }
 
-fn wide_remainder(x: i128, n: i128) -> Result<i128, NoWhole>
-    ensures { result ≡ quotient remainder_of x n }
+/// The remainder, at least 0; none by a divisor below 1.
+fn remainder(alloc: Global, x: &Whole, y: &Whole) -> Result<Option<Whole>, AllocError>
+    ensures { IfOk result (λ w. IsRead w (whole_joined step.Remainder (number x.now) (number y.now))) }
 {
-    if n < 1 {
-        Err(NoWhole::Undefined)
-    } else {
-        Ok(x.rem_euclid(n))
+    if y.capped() < 1 {
+        return Ok(None);
     }
+    Ok(Some(x.remainder(alloc, y)?))
 }
 
-fn wide_joined(join: Join, x: i128, y: i128) -> Result<i128, NoWhole>
-    ensures { result ≡ steps.wide_joined join x y }
+/// The lesser of two.
+fn least(alloc: Global, x: Whole, y: Whole) -> Result<Whole, AllocError>
+    ensures { IfOk result (λ w. w ≡ int_min x y) }
+{
+    if x.apart(alloc, &y)? < 0 {
+        return Ok(x);
+    }
+    Ok(y)
+}
+
+/// The greater of two.
+fn greatest(alloc: Global, x: Whole, y: Whole) -> Result<Whole, AllocError>
+    ensures { IfOk result (λ w. w ≡ int_max x y) }
+{
+    if x.apart(alloc, &y)? < 0 {
+        return Ok(y);
+    }
+    Ok(x)
+}
+
+fn joined(alloc: Global, join: Join, x: Whole, y: Whole) -> Result<Option<Whole>, AllocError>
+    ensures { IfOk result (λ w. IsRead w (whole_joined join (number x) (number y))) }
 {
     match join {
-        Join::Sum => wide_sum(x, y),
-        Join::Difference => wide_difference(x, y),
-        Join::Product => wide_product(x, y),
-        Join::Least => Ok(x.min(y)),
-        Join::Greatest => Ok(x.max(y)),
-        Join::Remainder => wide_remainder(x, y),
+        Join::Sum => Ok(Some(x.plus(&y)?)),
+        Join::Difference => Ok(Some(x.minus(&y)?)),
+        Join::Product => Ok(Some(x.times(alloc, &y)?)),
+        Join::Least => Ok(Some(least(alloc, x, y)?)),
+        Join::Greatest => Ok(Some(greatest(alloc, x, y)?)),
+        Join::Remainder => remainder(alloc, &x, &y),
     }
 }
 
-fn named(names: &[i64], x: u32) -> i128
+fn named(names: &[i64], x: u32) -> i64
     ensures { result ≡ get_or names.now x (pos 0) }
 {
     match names.get(x as usize) {
-        Some(v) => i128::from(*v),
+        Some(v) => *v,
         None => 0,
     }
 }
 
-// The value of an expression without operators.
+/// The value of an expression without operators.
 #[tactic(auto, using(affc_ast::proofs::Outs::ix_outs))]
-fn atom(e: &Ix, names: &[i64]) -> i128
+fn atom(e: &Ix, names: &[i64]) -> i64
     requires { operators e.now ≡ 0 }
-    ensures { wide_of e.now names.now ≡ Ok result }
+    ensures { whole_of e.now names.now ≡ number result }
 {
     match e {
-        Ix::Lit(n) => i128::from(*n),
+        Ix::Lit(n) => *n,
         Ix::Name(x) => named(names, x.0),
         Ix::Neg(_)
         | Ix::Add(..)
@@ -129,91 +110,96 @@ fn atom(e: &Ix, names: &[i64]) -> i128
     }
 }
 
-// The value of an expression. A frame is small, since a row of operators may be as long as a line.
-#[cycle(whole)]
-fn whole(e: &Ix, names: &[i64]) -> Result<i128, NoWhole>
-    ensures { result ≡ wide_of e.now names.now }
-{
-    match first_operand(e) {
-        None => Ok(atom(e, names)),
-        Some(a) => {
-            let x = whole(a, names)?;
-            outermost(e, x, names)
-        }
-    }
+/// Operators in a row, the outermost first, and what stands below them all.
+#[derive(Drop)]
+struct Row<'e> {
+    steps: Vec<Step<'e>>,
+    atom: &'e Ix,
 }
 
-// The value of an expression, from that of its first operand.
-#[cycle(whole)]
-#[inline(never)]
-fn outermost(e: &Ix, x: i128, names: &[i64]) -> Result<i128, NoWhole>
-    requires operator { 1 ≤ operators e.now }
-    requires inner { wide_of (row.first_operand e.now) names.now ≡ Ok x }
-    ensures { result ≡ wide_of e.now names.now }
+fn taken_apart(alloc: Global, e: &Ix) -> Result<Row<'_>, AllocError>
+    ensures plain { IfOk result (λ r. operators r.atom.now ≡ 0) }
+    ensures value { IfOk result (λ r. (names : List ℤ) → whole_of e.now names ≡ all_made r.steps.items names (whole_of r.atom.now names)) }
+    ensures smaller { IfOk result (λ r. All (λ s. right_nodes s < nodes_of_ix e.now) r.steps.items) }
 {
-    let Some((_, step)) = last_step(e) else {
-        unreachable!();
-    };
+    let mut steps = Vec::new(alloc);
+    let mut atom = e;
+    while let Some((a, step)) = last_step(atom) {
+        steps.push(step)?;
+        atom = a;
+    }
+    Ok(Row { steps, atom })
+}
+
+/// The value of an expression; none where a divisor in it is below 1. The recursion is into second operands alone.
+#[cycle(whole)]
+fn whole(alloc: Global, e: &Ix, names: &[i64]) -> Result<Option<Whole>, AllocError>
+    ensures { IfOk result (λ w. IsRead w (whole_of e.now names.now)) }
+{
+    let Row {
+        mut steps,
+        atom: inner,
+    } = taken_apart(alloc, e)?;
+    let mut value = Whole::from_i64(alloc, atom(inner, names))?;
+    while let Some(step) = steps.pop() {
+        match made(alloc, step, value, names)? {
+            Some(next) => value = next,
+            None => return Ok(None),
+        }
+    }
+    Ok(Some(value))
+}
+
+/// What an operator makes of its first operand's value.
+#[cycle(whole)]
+fn made(alloc: Global, step: Step<'_>, x: Whole, names: &[i64]) -> Result<Option<Whole>, AllocError>
+    ensures { IfOk result (λ w. IsRead w (whole_made step.entry names.now (number x))) }
+{
     match step {
-        Step::Opposite => wide_opposite(x),
-        Step::Floor(n) => wide_floor(x, n),
-        Step::Ceiling(n) => wide_ceiling(x, n),
-        Step::Joined(join, b) => {
-            let y = whole(b, names)?;
-            wide_joined(join, x, y)
-        }
+        Step::Opposite => Ok(Some(x.opposite(alloc)?)),
+        Step::Floor(n) => floor(alloc, &x, n),
+        Step::Ceiling(n) => ceiling(alloc, &x, n),
+        Step::Joined(join, b) => match whole(alloc, b, names)? {
+            Some(y) => joined(alloc, join, x, y),
+            None => Ok(None),
+        },
     }
 }
 
-fn compare(rel: Rel, x: i128, y: i128) -> bool
-    ensures { result ≡ compares rel x y }
+fn compare(rel: Rel, apart: i128) -> bool
+    ensures { (x y : ℤ) → apart ≡ capped (x -ℤ y) → result ≡ compares rel x y }
 {
     match rel {
-        Rel::Less => x < y,
-        Rel::LessEqual => x <= y,
-        Rel::Greater => y < x,
-        Rel::GreaterEqual => y <= x,
-        Rel::Equal => x == y,
+        Rel::Less => apart < 0,
+        Rel::LessEqual => apart <= 0,
+        Rel::Greater => apart > 0,
+        Rel::GreaterEqual => apart >= 0,
+        Rel::Equal => apart == 0,
     }
 }
 
-// Whether both sides have a value, and it holds.
-fn is_met(c: &Compare, p: &[i64]) -> Result<bool, NoWhole>
-    ensures met { IfOk result (λ b. b ≡ is_met c.now p.now) }
-    ensures wide { is_err result ≡ has_wide_side c.now p.now }
-    ensures kind { IfErr result (λ e. e ≡ Wide) }
+/// Whether both sides have a value, and it holds.
+fn is_met(alloc: Global, c: &Compare, p: &[i64]) -> Result<bool, AllocError>
+    ensures { IfOk result (λ b. b ≡ is_met c.now p.now) }
 {
-    met(c.rel, whole(&c.left, p), whole(&c.right, p))
+    let Some(x) = whole(alloc, &c.left, p)? else {
+        return Ok(false);
+    };
+    let Some(y) = whole(alloc, &c.right, p)? else {
+        return Ok(false);
+    };
+    Ok(compare(c.rel, x.apart(alloc, &y)?))
 }
 
-fn met(rel: Rel, left: Result<i128, NoWhole>, right: Result<i128, NoWhole>) -> Result<bool, NoWhole>
-    ensures met { (x y : fits.Whole) → IsWhole left x → IsWhole right y → IfOk result (λ b. b ≡ (x.defined && y.defined && compares rel x.value y.value)) }
-    ensures wide { is_err result ≡ either_wide left right }
-    ensures kind { IfErr result (λ e. e ≡ Wide) }
-{
-    match left {
-        Ok(x) => match right {
-            Ok(y) => Ok(compare(rel, x, y)),
-            Err(NoWhole::Undefined) => Ok(false),
-            Err(NoWhole::Wide) => Err(NoWhole::Wide),
-        },
-        Err(NoWhole::Undefined) => Ok(false),
-        Err(NoWhole::Wide) => Err(NoWhole::Wide),
-    }
-}
-
-/// Whether the parameters meet all conditions. It is an error where a condition that is looked at has a number that
-/// takes more than 128 bits.
-pub fn meets(conds: &[Compare], p: &[i64]) -> Result<bool, NoWhole>
-    ensures met { IfOk result (λ b. b ≡ fits.meets conds.now p.now) }
-    ensures wide { is_err result ≡ has_wide conds.now p.now }
-    ensures kind { IfErr result (λ e. e ≡ Wide) }
+/// Whether the parameters meet all conditions.
+pub fn meets(alloc: Global, conds: &[Compare], p: &[i64]) -> Result<bool, AllocError>
+    ensures { IfOk result (λ b. b ≡ fits.meets conds.now p.now) }
 {
     match conds {
         [] => Ok(true),
         [c, rest @ ..] => {
-            if is_met(c, p)? {
-                meets(rest, p)
+            if is_met(alloc, c, p)? {
+                meets(alloc, rest, p)
             } else {
                 Ok(false)
             }

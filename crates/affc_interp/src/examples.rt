@@ -1,7 +1,7 @@
 //! What the definitions give at small programs, as laws: `specs/Examples.antt` says each, with values that were
 //! found by hand from the rules.
 
-ghost use Rattle.affc_interp.specs.Examples.{StepsAreEnough, DataIsTheStart, FloorsAndRemainders, ElementsAreCounted, ValuesStandInOrder, OutputsAreWritten, DataIsRead, UnmetContextIsWrong, NumbersAreTooWide};
+ghost use Rattle.affc_interp.specs.Examples.{StepsAreEnough, DataIsTheStart, FloorsAndRemainders, ElementsAreCounted, ValuesStandInOrder, OutputsAreWritten, DataIsRead, UnmetContextIsWrong};
 
 /// Runs within their steps.
 pub fn runs()
@@ -17,5 +17,4 @@ pub fn texts()
     ensures outputs_are_written { OutputsAreWritten }
     ensures data_is_read { DataIsRead }
     ensures unmet_context_is_wrong { UnmetContextIsWrong }
-    ensures numbers_are_too_wide { NumbersAreTooWide }
 {}

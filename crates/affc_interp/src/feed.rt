@@ -1,12 +1,11 @@
 //! Data: what a program is run on, read from a text.
-ghost use Rattle.std.specs.Prelude.{◌≡◌, ◌+◌, ◌^◌, ◌<◌, ◌==◌, ◌&&◌, false, length, IfOk, is_err, Ok};
+ghost use Rattle.std.specs.Prelude.{◌≡◌, ◌+◌, ◌^◌, ◌<◌, ◌==◌, ◌&&◌, false, length, IfOk, Ok};
 ghost use Rattle.affc_ast.specs.Fits.{meets};
 ghost use Rattle.affc_ast.specs.Meaning.{arrays_of, nodes_of_decls};
 ghost use Rattle.affc_interp.specs.Arrays.{values_in};
 ghost use Rattle.affc_interp.specs.Feeds.{ReadsLines, AnswersFeed, SaysWhole};
-ghost use Rattle.affc_interp.specs.Wholes.{has_wide};
 
-use crate::context::{NoWhole, meets};
+use crate::context::meets;
 use crate::extents::element_count;
 use crate::line::{array_line, number_line};
 use affc_ast::tree::{Compare, Param, Program};
@@ -110,22 +109,17 @@ fn read_lines<'t>(
 }
 
 // Whether nothing is left of the text, and the context is met.
-fn is_whole(rest: &[u8], context: &[Compare], p: &[i64]) -> Result<bool, FeedFault>
+fn is_whole(alloc: Global, rest: &[u8], context: &[Compare], p: &[i64]) -> Result<bool, FeedFault>
     ensures says { SaysWhole result ((length rest.now == 0) && meets context.now p.now) }
     ensures longer { 0 < length rest.now → result ≡ Ok false }
-    ensures wide { is_err result ≡ ((length rest.now == 0) && has_wide context.now p.now) }
 {
     if !rest.is_empty() {
         return Ok(false);
     }
-    match meets(context, p) {
-        Ok(met) => Ok(met),
-        Err(_) => Err(FeedFault::Memory),
-    }
+    Ok(meets(alloc, context, p)?)
 }
 
-/// The data that the text gives, or the first line that is wrong. A context with a number in it that takes more
-/// than 128 bits is want of memory.
+/// The data that the text gives, or the first line that is wrong.
 pub fn read_feed(alloc: Global, text: &[u8], program: &Program) -> Result<Feed, FeedFault>
     requires { nodes_of_decls (arrays_of program.now.params) < 2 ^ 32 }
     ensures { AnswersFeed result text.now program.now }
@@ -137,7 +131,7 @@ pub fn read_feed(alloc: Global, text: &[u8], program: &Program) -> Result<Feed, 
     let mut numbers = Vec::new(alloc);
     let mut arrays = Vec::new(alloc);
     match read_lines(alloc, text, params, 1, &mut numbers, &mut arrays) {
-        Ok(rest) => match is_whole(rest, program.context.as_slice(), numbers.as_slice()) {
+        Ok(rest) => match is_whole(alloc, rest, program.context.as_slice(), numbers.as_slice()) {
             Ok(true) => Ok(Feed {
                 params: numbers,
                 arrays,

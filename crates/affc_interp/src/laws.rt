@@ -9,6 +9,7 @@ ghost use Rattle.affc_ast.specs.Values.{Scope};
 ghost use Rattle.affc_interp.specs.Budget.{exec_of, all_of};
 ghost use Rattle.affc_interp.specs.DataText.{FeedReads};
 ghost use Rattle.affc_interp.specs.Earlier.{extents_earlier};
+ghost use Rattle.affc_interp.specs.Laws.{DataAreOne};
 ghost use Rattle.affc_interp.specs.Runs.{within_limit, start};
 
 /// A run that counts its steps is the meaning, cut where the steps are used up.
@@ -19,4 +20,9 @@ pub fn runs_are_cut_at_their_limit()
 /// Data that a text gives fits the program, where each extent holds the names of parameters before it alone.
 pub fn read_data_fits()
     ensures { (text : List ℕ) (program : Program) (p : List ℤ) (values : List (List ℕ)) → extents_earlier 0 program.params ≡ true → FeedReads text program p values → Fits program p (start program p values) }
+{}
+
+/// A data text stands for one data set.
+pub fn data_are_one()
+    ensures { DataAreOne }
 {}

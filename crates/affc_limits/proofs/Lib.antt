@@ -2,6 +2,7 @@ pub mod Counting
 pub mod PlaceLaws
 pub mod BodyLaws
 pub mod WholeLaws
+pub mod QuotientLaws
 pub mod TextLaws
 pub mod TermLaws
 pub mod PartLaws

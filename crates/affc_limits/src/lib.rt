@@ -12,4 +12,4 @@ mod rests;
 pub mod shape;
 mod terms;
 pub mod texts;
-mod whole;
+pub mod whole;
