@@ -6,5 +6,6 @@ pub mod Shows
 pub mod Alike
 pub mod Passing
 pub mod Unique
+pub mod OneShown
 pub mod ExampleProofs
 pub mod Written

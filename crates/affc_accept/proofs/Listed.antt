@@ -6,6 +6,7 @@ use Rattle.std.proofs.lemmas.Option.{same_Some, none-some}
 use Rattle.affc_trace.specs.Law.{IsIn}
 use Rattle.affc_trace.proofs.Members.{to_map}
 use Rattle.affc_trace.proofs.Once.{in_append}
+use Rattle.affc_trace.proofs.Runs.{slice_left}
 use Rattle.affc_nest.specs.declared.nest.Access.{Access}
 use Rattle.affc_nest.specs.declared.nest.ArrayInfo.{ArrayInfo}
 use Rattle.affc_nest.specs.declared.nest.Entry.{Entry}
@@ -13,6 +14,7 @@ use Rattle.affc_nest.specs.declared.nest.Nest.{Nest}
 use Rattle.affc_quast.specs.Sources.{loads_in, loads_before}
 use Rattle.affc_flow.specs.Asked.{writers_of}
 use Rattle.affc_flow.specs.Questions.{is_temp, store_of_entry, Writer, writer_if}
+use Rattle.affc_life.proofs.SoughtLemmas.{in_second}
 use Rattle.affc_cert.specs.declared.tree.layout.Load.{Load}
 use Rattle.affc_cert.specs.declared.tree.layout.Store.{Store}
 use Rattle.affc_check.specs.Layouts.{IsLoadIn}
@@ -127,16 +129,6 @@ temporary_in first (a ∷ as') d i =
 
 -- ---- Loads
 
-slice_front : {A : Type 0} (xs ys : List A) (k : ℕ) (x : A) → slice_get xs k ≡ Some x → slice_get (xs ++ ys) k ≡ Some x
-slice_front [] ys k x e = absurd (none-some x e)
-slice_front (z ∷ xs) ys zero x e = e
-slice_front (z ∷ xs) ys (suc k) x e = slice_front xs ys k x e
-
-slice_behind : {A : Type 0} (xs ys : List A) (n k : ℕ) → n ≡ length xs + k → slice_get (xs ++ ys) n ≡ slice_get ys k
-slice_behind [] ys n k e = ap (slice_get ys) (let s : n ≡ k = omega (arith, e) in s)
-slice_behind (z ∷ xs) ys zero k e = absurd (omega (arith, e))
-slice_behind (z ∷ xs) ys (suc n) k e = slice_behind xs ys n k (omega (arith, e))
-
 loads_many : (nest : Nest) (e : Entry) (xs : List Access) → length (loads_among nest e xs) ≡ length xs - 1
 loads_many nest e [] = refl
 loads_many nest e (x ∷ []) = refl
@@ -163,12 +155,12 @@ load_at nest (f ∷ es) zero k e at l =
     let here = load_among nest e e.accesses k l in
     let there : slice_get (loads_of nest f) k ≡ Some (load_of nest e here.0) = ap (λ (x : Entry). slice_get (loads_of nest x) k) same ∙ here.1 in
     let n : 0 + k ≡ k = omega arith in
-    (here.0, ap (slice_get (flat_map (loads_of nest) (f ∷ es))) n ∙ slice_front (loads_of nest f) (flat_map (loads_of nest) es) k (load_of nest e here.0) there)
+    (here.0, ap (slice_get (flat_map (loads_of nest) (f ∷ es))) n ∙ slice_left (loads_of nest f) (flat_map (loads_of nest) es) k (load_of nest e here.0) there)
 load_at nest (f ∷ es) (suc s) k e at l =
     let h = load_at nest es s k e at l in
     let own = loads_many nest f f.accesses in
     let n : (loads_in f + loads_before es s) + k ≡ length (loads_of nest f) + (loads_before es s + k) = omega (arith, own) in
-    (h.0, slice_behind (loads_of nest f) (flat_map (loads_of nest) es) ((loads_in f + loads_before es s) + k) (loads_before es s + k) n ∙ h.1)
+    (h.0, in_second (loads_of nest f) (flat_map (loads_of nest) es) ((loads_in f + loads_before es s) + k) (loads_before es s + k) n ∙ h.1)
 
 -- ---- All of it
 

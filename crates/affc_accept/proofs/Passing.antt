@@ -11,11 +11,11 @@ use Rattle.affc_farkas.specs.declared.proof.Proof.{Proof, Leaf, Cut', Split'}
 use Rattle.affc_farkas.specs.Depths.{StandAtNode}
 use Rattle.affc_trace.specs.declared.schedule.Schedule.{Schedule}
 use Rattle.affc_trace.specs.Law.{IsIn}
-use Rattle.affc_trace.proofs.Members.{to_first, to_second, to_map, to_flat_map}
+use Rattle.affc_trace.proofs.Members.{to_first, to_second, to_map, to_flat_map, in_map}
+use Rattle.affc_domain.proofs.Lists.{stands_in}
 use Rattle.affc_nest.specs.declared.nest.Nest.{Nest}
 use Rattle.affc_nest.specs.Domains.{gap_row}
 use Rattle.affc_nest.specs.Questions.{extent_questions, bound_questions}
-use Rattle.affc_nest.proofs.QuestionLemmas.{stands_in}
 use Rattle.affc_sched.specs.Questions.{legality_questions}
 use Rattle.affc_quast.specs.Seen.{trees_of}
 use Rattle.affc_quast.specs.Trees.{Tree}
@@ -41,6 +41,7 @@ use Rattle.affc_check.specs.list.Passes.{items_by_tree, FoldPasses, PassesFirst}
 use Rattle.affc_check.specs.Valid.{IsProved, AreValid}
 use Rattle.affc_check.proofs.list.FoldLemmas.{same_fold}
 use Rattle.affc_check.proofs.list.TreeLemmas.{trees_flat}
+use Rattle.affc_check.proofs.ReadFor.{zip_in}
 use Rattle.affc_accept.specs.Columns.{in_text}
 use Rattle.affc_accept.specs.Layouts.{dimensions_of, IsLayout}
 use Rattle.affc_accept.proofs.Alike.{same_array, said_alike, like_in}
@@ -137,18 +138,6 @@ asks nest systems rows (row ∷ more) (m ∷ ms) s some e i =
 
 -- ---- Folds
 
-zip_in : {A B : Type 0} (R : A → B → Type 0) (xs : List A) (ys : List B) (y : B) → AllZip R xs ys → IsIn y ys → (x : A) × IsIn x xs × R x y
-zip_in R [] [] y h i = absurd i
-zip_in R [] (z ∷ ys) y h i = absurd h
-zip_in R (x ∷ xs) [] y h i = absurd i
-zip_in R (x ∷ xs) (z ∷ ys) y h (inl e) = (x, inl refl, subst (R x) (sym e) h.0)
-zip_in R (x ∷ xs) (z ∷ ys) y h (inr i) = let r = zip_in R xs ys y h.1 i in (r.0, inr r.1, r.2)
-
-of_map : {A B : Type 0} (f : A → B) (xs : List A) (y : B) → IsIn y (map f xs) → (x : A) × IsIn x xs × (y ≡ f x)
-of_map f [] y i = absurd i
-of_map f (x ∷ xs) y (inl e) = (x, inl refl, e)
-of_map f (x ∷ xs) y (inr i) = let r = of_map f xs y i in (r.0, inr r.1, r.2)
-
 -- what is said of a fold
 said_for : (nest : Nest) (schedule : Schedule) (trees : List Tree) (cs : List CertFold) (fs : List FoldShown) (c : CertFold) → AreFoldsSaid nest schedule trees cs fs → IsIn c cs → (f : FoldShown) × IsIn f fs × IsFoldSaid nest schedule trees c f
 said_for nest schedule trees [] fs c h i = absurd i
@@ -197,7 +186,7 @@ module _ (nest : Nest) (schedule : Schedule) (a b : Cert) (layout : Layout) (sam
 
   no_large : (c : CertFold) (f : FoldShown) → HasRows c → IsIn f are.folds → IsFoldSaid nest schedule (trees_of b.flow) c f → AnyLarge (clashes nest (trees_of b.flow) schedule c.array.0) → ⊥
   no_large c f has i said large =
-      let s = of_map clash_of f.systems large.clash (subst (IsIn large.clash) (sym said.systems) large.there) in
+      let s = in_map clash_of f.systems large.clash (subst (IsIn large.clash) (sym said.systems) large.there) in
       let rows : length f.rows ≡ length c.basis.rows = ap length said.rows in
       let moduli : length f.moduli ≡ length c.moduli = ap length said.moduli ∙ many c.moduli in
       let some = has.some in

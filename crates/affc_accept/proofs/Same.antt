@@ -10,9 +10,9 @@ use Rattle.std.proofs.lemmas.Option.{same_Some, none-some}
 use Rattle.std.proofs.lemmas.Slice.Eq.{slice_eq-Decides}
 use Rattle.affc_rows.specs.Forms.{Affine}
 use Rattle.affc_ast.specs.declared.tree.ArrayId.{ArrayId}
-use Rattle.affc_trace.specs.Law.{IsIn}
 use Rattle.affc_basis.specs.declared.basis.Basis.{Basis}
 use Rattle.affc_basis.specs.Listed.{Shape, shape_of, listing}
+use Rattle.affc_domain.proofs.Lists.{place_of}
 use Rattle.affc_nest.specs.declared.nest.ArrayInfo.{ArrayInfo}
 use Rattle.affc_nest.specs.declared.nest.Nest.{Nest}
 use Rattle.affc_life.specs.Folding.{given_for}
@@ -141,13 +141,8 @@ keeps_decides nest bases c = has_decides nest c (given_for bases c.array.0 (leng
 
 -- ---- The first that isn't
 
-at_number : {A : Type 0} (xs : List A) (x : A) → IsIn x xs → (k : ℕ) × (slice_get xs k ≡ Some x)
-at_number [] x i = absurd i
-at_number (y ∷ xs) x (inl e) = (0, ap Some (sym e))
-at_number (y ∷ xs) x (inr i) = let r = at_number xs x i in (suc r.0, r.1)
-
 pub all_keep : (nest : Nest) (bases : List (ArrayId × Basis)) (cs : List CertFold) → ((k : ℕ) (c : CertFold) → k < length cs → slice_get cs k ≡ Some c → keeps_basis nest bases c ≡ true) → KeepBases nest bases cs
-all_keep nest bases cs h c i = let k = at_number cs c i in (keeps_decides nest bases c).0 (h k.0 c (within cs k.0 c k.1) k.1)
+all_keep nest bases cs h c i = let k = place_of cs c i in (keeps_decides nest bases c).0 (h k.0 c (within cs k.0 c k.1) k.1)
   where
     within : (xs : List CertFold) (k : ℕ) (x : CertFold) → slice_get xs k ≡ Some x → k < length xs
     within [] k x e = absurd (none-some x e)

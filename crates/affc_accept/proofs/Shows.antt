@@ -1,5 +1,5 @@
 -- What a certificate that is accepted shows.
-use Rattle.std.proofs.Common.{◌≡◌, ℕ, ◌+◌, ℤ, IsTrue, List, [], ◌∷◌, length, map, Some, refl, sym, ap, ap₂, subst, inl, inr, arith, ◌∙◌}
+use Rattle.std.proofs.Common.{◌≡◌, ℕ, ◌+◌, ℤ, IsTrue, List, [], ◌∷◌, length, map, Some, refl, sym, ap, ap₂, subst, arith, ◌∙◌}
 use Rattle.std.specs.Prelude.{slice_get}
 use Rattle.std.specs.List.{All, AllZip}
 use Rattle.std.proofs.lemmas.List.Elements.{All-nil, All-cons, All-head, All-tail}
@@ -11,13 +11,13 @@ use Rattle.affc_trace.specs.declared.schedule.Schedule.{Schedule}
 use Rattle.affc_trace.specs.Dataflow.{LivePair}
 use Rattle.affc_trace.specs.Law.{IsIn}
 use Rattle.affc_trace.specs.Laws.{IsInContext}
-use Rattle.affc_trace.proofs.Members.{to_map}
+use Rattle.affc_trace.proofs.Members.{to_map, in_map}
 use Rattle.affc_basis.specs.declared.fold.Fold.{Fold}
 use Rattle.affc_basis.specs.Folds.{forms_of, Obeys}
 use Rattle.affc_basis.specs.Moduli.{IsModulus}
+use Rattle.affc_domain.proofs.RangeLemmas.{numbers_are}
 use Rattle.affc_nest.specs.declared.nest.Nest.{Nest}
 use Rattle.affc_nest.specs.Nests.{nest_of}
-use Rattle.affc_order.proofs.TimeLemmas.{numbers_are}
 use Rattle.affc_quast.specs.Seen.{trees_of}
 use Rattle.affc_quast.specs.Trees.{Tree}
 use Rattle.affc_flow.specs.Questions.{is_temporary_info}
@@ -36,6 +36,7 @@ use Rattle.affc_check.specs.list.Items.{ModulusShown, FoldShown, moduli_of}
 use Rattle.affc_check.specs.Laws.{IsFoldOfArray, IsRightFold}
 use Rattle.affc_check.proofs.Members.{seen_wide}
 use Rattle.affc_check.proofs.Read.{certs_are_read, valid_certs_give}
+use Rattle.affc_check.proofs.ReadFor.{zip_in}
 use Rattle.affc_accept.specs.Laws.{HasTemporariesLast, AcceptedShows}
 use Rattle.affc_accept.specs.Layouts.{Dimensions, dimensions_of, temporaries_from, IsLayout}
 use Rattle.affc_accept.proofs.Listed.{temporary_in}
@@ -43,14 +44,7 @@ use Rattle.affc_accept.proofs.Refused.{certificate_within, read_within}
 
 -- ---- Lists beside one another
 
-zip_in : {A B : Type 0} (R : A → B → Type 0) (xs : List A) (ys : List B) (y : B) → AllZip R xs ys → IsIn y ys → (x : A) × IsIn x xs × R x y
-zip_in R [] [] y h i = absurd i
-zip_in R [] (z ∷ ys) y h i = absurd h
-zip_in R (x ∷ xs) [] y h i = absurd i
-zip_in R (x ∷ xs) (z ∷ ys) y h (inl e) = (x, inl refl, subst (R x) (sym e) h.0)
-zip_in R (x ∷ xs) (z ∷ ys) y h (inr i) = let r = zip_in R xs ys y h.1 i in (r.0, inr r.1, r.2)
-
-zip_map : {A B C : Type 0} (R : A → B → Type 0) (f : A → C) (g : B → C) → ((x : A) (y : B) → R x y → g y ≡ f x) → (xs : List A) (ys : List B) → AllZip R xs ys → map g ys ≡ map f xs
+pub zip_map : {A B C : Type 0} (R : A → B → Type 0) (f : A → C) (g : B → C) → ((x : A) (y : B) → R x y → g y ≡ f x) → (xs : List A) (ys : List B) → AllZip R xs ys → map g ys ≡ map f xs
 zip_map R f g same [] [] h = refl
 zip_map R f g same [] (y ∷ ys) h = absurd h
 zip_map R f g same (x ∷ xs) [] h = absurd h
@@ -59,11 +53,6 @@ zip_map R f g same (x ∷ xs) (y ∷ ys) h = ap₂ (λ z zs. z ∷ zs) (same x y
 map_twice : {A B C : Type 0} (f : B → C) (g : A → B) (xs : List A) → map f (map g xs) ≡ map (λ x. f (g x)) xs
 map_twice f g [] = refl
 map_twice f g (x ∷ xs) = ap (λ zs. f (g x) ∷ zs) (map_twice f g xs)
-
-of_map : {A B : Type 0} (f : A → B) (xs : List A) (y : B) → IsIn y (map f xs) → (x : A) × IsIn x xs × (y ≡ f x)
-of_map f [] y i = absurd i
-of_map f (x ∷ xs) y (inl e) = (x, inl refl, e)
-of_map f (x ∷ xs) y (inr i) = let r = of_map f xs y i in (r.0, inr r.1, r.2)
 
 -- ---- The arrays of the folds
 
@@ -99,7 +88,7 @@ module _ (program : Program) (schedule : Schedule) (pairs : ℕ → List ℤ →
     (trees : List Tree) (f : FoldShown) (made : IsFoldMade f (array, fold)) (of : IsFoldOfArray program schedule trees f) (right : IsRightFold program pairs f) where
   pub fold_for : IsFoldFor program pairs array.0 fold
   fold_for =
-      let m = of_map (λ (t : ℕ × ℕ). t.0) (temporaries_from 0 (nest_of program).arrays) array.0 among in
+      let m = in_map (λ (t : ℕ × ℕ). t.0) (temporaries_from 0 (nest_of program).arrays) array.0 among in
       let h = temporary_in 0 (nest_of program).arrays m.0 m.1 in
       let at : array.0 ≡ h.number = m.2 ∙ h.array ∙ (let n : 0 + h.number ≡ h.number = omega arith in n) in
       let there : slice_get (nest_of program).arrays array.0 ≡ Some h.info = ap (slice_get (nest_of program).arrays) at ∙ h.there in

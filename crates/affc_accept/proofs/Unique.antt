@@ -6,9 +6,9 @@ use Rattle.std.proofs.lemmas.Option.{same_Some}
 use Rattle.affc_ast.specs.declared.tree.ArrayId.{ArrayId}
 use Rattle.affc_trace.specs.declared.schedule.Schedule.{Schedule}
 use Rattle.affc_basis.specs.declared.basis.Basis.{Basis}
+use Rattle.affc_domain.proofs.Lists.{stands_in}
 use Rattle.affc_nest.specs.declared.nest.Nest.{Nest}
 use Rattle.affc_nest.specs.Questions.{whole_context, extent_questions, bound_questions}
-use Rattle.affc_nest.proofs.QuestionLemmas.{stands_in}
 use Rattle.affc_sched.specs.Questions.{legality_questions}
 use Rattle.affc_flow.specs.Questions.{flow_questions}
 use Rattle.affc_quast.specs.Seen.{trees_of}
@@ -80,7 +80,7 @@ one_before l a b h k e =
     let trees : a.trees ≡ b.trees = sym (back a h) ∙ ap (λ (c : Certificate). trees_from_text l.parameters l.loads c.trees) e ∙ back b k in
     λ i. record { context = (e i).context; trees = trees i; folds = (e i).folds; proofs = (e i).proofs }
 
-one_seen : (nest : Nest) (bytes : List ℕ) (a b : Cert) → IsRead nest bytes a → IsRead nest bytes b → seen a ≡ seen b
+pub one_seen : (nest : Nest) (bytes : List ℕ) (a b : Cert) → IsRead nest bytes a → IsRead nest bytes b → seen a ≡ seen b
 one_seen nest bytes a b h k =
     let l : Layout = h.layout in
     let same : k.layout ≡ l = one_layout nest k.layout l k.is_layout h.is_layout in

@@ -31,3 +31,8 @@ pub record IsAccepted (nest : Nest) (plan : Plan) (text : List ℕ) (folds : Lis
   pub checked : Checked
   pub is_checked : IsChecked nest plan.schedule cert checked
   pub are : checked.folds.items ≡ folds
+
+-- the same, with so many proofs behind the last question's
+pub record AcceptsSparing (nest : Nest) (plan : Plan) (text : List ℕ) (folds : List (ArrayId × Fold)) (spare : ℕ) : Type 0 where
+  pub accepted : IsAccepted nest plan text folds
+  pub proofs : accepted.checked.spare ≡ spare

@@ -13,6 +13,12 @@ text_fault (text.Shape part) = Certificate (text.Shape part)
 text_fault (text.Number part) = Certificate (text.Number part)
 text_fault text.Memory = Memory
 
+-- it is of a text, or want of memory, and of no item
+abbrev pub IsOfText : AcceptFault → Type 0
+IsOfText (Certificate fault) = Unit {0}
+IsOfText (Check fault) = ⊥
+IsOfText Memory = Unit {0}
+
 abbrev pub items_fault : CheckFault → AcceptFault
 items_fault (items.Number part) = Check (items.Number part)
 items_fault (items.Proof item) = Check (items.Proof item)

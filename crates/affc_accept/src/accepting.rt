@@ -6,9 +6,9 @@ ghost use Rattle.affc_nest.specs.declared.nest.Nest.{Nest as OfNest};
 ghost use Rattle.affc_schedtext.specs.declared.plan.Plan.{Plan as OfPlan};
 ghost use Rattle.affc_check.specs.Answers.{IsChecked};
 ghost use Rattle.affc_check.specs.list.Certs.{IsCertWithin};
-ghost use Rattle.affc_accept.specs.Accepted.{IsRead, IsAccepted};
+ghost use Rattle.affc_accept.specs.Accepted.{IsRead, IsAccepted, AcceptsSparing};
 ghost use Rattle.affc_accept.specs.Bases.{KeepBases};
-ghost use Rattle.affc_accept.specs.Causes.{text_fault, items_fault};
+ghost use Rattle.affc_accept.specs.Causes.{text_fault, items_fault, IsOfText};
 ghost use Rattle.affc_accept.specs.Columns as specs;
 ghost use Rattle.affc_accept.specs.Layouts.{IsLayout};
 ghost use Rattle.affc_accept.specs.Refusals.{AcceptRefuses};
@@ -26,7 +26,8 @@ use std::alloc::{AllocError, Global};
 
 // What is said of a text.
 fn of_text(fault: CertFault) -> AcceptFault
-    ensures { result ≡ text_fault fault }
+    ensures cause { result ≡ text_fault fault }
+    ensures of_text { IsOfText result }
 {
     match fault {
         CertFault::Json => AcceptFault::Certificate(CertFault::Json),
@@ -73,6 +74,7 @@ fn read(alloc: Global, layout: &Layout, text: &[u8]) -> Result<Cert, AcceptFault
     ensures read { IfOk result (λ cert. (nest : OfNest) → IsLayout nest layout.now → IsRead nest text.now cert) }
     ensures within { IfOk result (λ cert. (nest : OfNest) → IsLayout nest layout.now → IsCertWithin nest cert) }
     ensures err { IfErr result (λ e. (nest : OfNest) (plan : OfPlan) → IsLayout nest layout.now → AcceptRefuses nest plan text.now e) }
+    ensures of_text { IfErr result IsOfText }
 {
     match from_json(alloc, text, layout) {
         Ok(cert) => match from_text(alloc, layout, cert) {
@@ -94,6 +96,7 @@ fn part_of(trees: usize, fold: usize) -> Option<usize>
 fn with_bases(alloc: Global, nest: &Nest, plan: &Plan, cert: &Cert) -> Result<(), AcceptFault>
     ensures kept { OnOk result (KeepBases nest.now plan.now.folds cert.now.folds) }
     ensures err { IfErr result (λ e. (text : List ℕ) → IsRead nest.now text cert.now → AcceptRefuses nest.now plan.now text e) }
+    ensures of_text { IfErr result IsOfText }
 {
     let folds = cert.folds.as_slice();
     let Some(fold) = first_other(alloc, nest, plan.folds.as_slice(), folds)? else {
@@ -105,8 +108,33 @@ fn with_bases(alloc: Global, nest: &Nest, plan: &Plan, cert: &Cert) -> Result<()
     }
 }
 
-// Whether a certificate is valid.
-fn checked(alloc: Global, nest: &Nest, plan: &Plan, cert: &Cert) -> Result<Checked, AcceptFault>
+/// A text as a certificate with the plan's bases, of which neither sizes nor items are looked at: its shape and numbers first, and then
+/// its bases. The nest may be that of any program.
+pub fn accept_text(
+    alloc: Global,
+    nest: &Nest,
+    plan: &Plan,
+    text: &[u8],
+) -> Result<Cert, AcceptFault>
+    ensures read { IfOk result (IsRead nest.now text.now) }
+    ensures within { IfOk result (IsCertWithin nest.now) }
+    ensures bases { IfOk result (λ cert. KeepBases nest.now plan.now.folds cert.folds) }
+    ensures err { IfErr result (AcceptRefuses nest.now plan.now text.now) }
+    ensures of_text { IfErr result IsOfText }
+{
+    let layout = layout(alloc, nest)?;
+    let cert = read(alloc, &layout, text)?;
+    with_bases(alloc, nest, plan, &cert)?;
+    Ok(cert)
+}
+
+/// Whether a certificate that was read is valid: the sizes of its questions first, and then its items.
+pub fn accept_items(
+    alloc: Global,
+    nest: &Nest,
+    plan: &Plan,
+    cert: &Cert,
+) -> Result<Checked, AcceptFault>
     requires asked { IsAsked nest.now plan.now.schedule }
     requires within { IsCertWithin nest.now cert.now }
     requires bases { KeepBases nest.now plan.now.folds cert.now.folds }
@@ -126,10 +154,8 @@ pub fn accept(alloc: Global, nest: &Nest, plan: &Plan, text: &[u8]) -> Result<Ch
     ensures ok { IfOk result (λ checked. IsAccepted nest.now plan.now text.now checked.folds.items) }
     ensures err { IfErr result (AcceptRefuses nest.now plan.now text.now) }
 {
-    let layout = layout(alloc, nest)?;
-    let cert = read(alloc, &layout, text)?;
-    with_bases(alloc, nest, plan, &cert)?;
-    checked(alloc, nest, plan, &cert)
+    let cert = accept_text(alloc, nest, plan, text)?;
+    accept_items(alloc, nest, plan, &cert)
 }
 
 /// A certificate that is accepted: its text, and what it shows.
@@ -202,11 +228,12 @@ pub fn accept_cert(
 ) -> Result<Accepted, AcceptFault>
     requires asked { IsAsked nest.now plan.now.schedule }
     ensures ok { IfOk result (λ a. IsAccepted nest.now plan.now a.text.items a.checked.folds.items) }
+    ensures spare { IfOk result (λ a. AcceptsSparing nest.now plan.now a.text.items a.checked.folds.items a.checked.spare) }
     ensures err { IfErr result (λ e. (text : List ℕ) → IsRead nest.now text cert → AcceptRefuses nest.now plan.now text e) }
 {
     let layout = layout(alloc, nest)?;
     let (text, cert) = written(alloc, &layout, cert)?;
     with_bases(alloc, nest, plan, &cert)?;
-    let checked = checked(alloc, nest, plan, &cert)?;
+    let checked = accept_items(alloc, nest, plan, &cert)?;
     Ok(Accepted { text, checked })
 }

@@ -9,6 +9,6 @@ pub mod fault;
 pub mod laws;
 pub mod layout;
 
-pub use accepting::{Accepted, accept, accept_cert};
+pub use accepting::{Accepted, accept, accept_cert, accept_items, accept_text};
 pub use bases::first_other;
 pub use fault::AcceptFault;

@@ -1,3 +1,4 @@
 pub mod DraftLemmas
 pub mod LeftLemmas
 pub mod ShownLemmas
+pub mod SpareLemmas

@@ -10,6 +10,7 @@ use Rattle.affc_basis.specs.Listed.{shape_of}
 use Rattle.affc_nest.specs.declared.nest.ArrayInfo.{ArrayInfo}
 use Rattle.affc_nest.specs.declared.nest.Nest.{Nest}
 use Rattle.affc_schedtext.specs.declared.plan.Plan.{Plan}
+use Rattle.affc_check.specs.Valid.{questions_among}
 use Rattle.affc_accept.specs.Accepted.{IsAccepted}
 use Rattle.affc_accept.specs.Bases.{identity}
 
@@ -35,8 +36,9 @@ IsFoldShownOf nest array (Some fold) shown = IsSame fold shown
 abbrev pub Shows : Nest → (folds shown : List (ArrayId × Fold)) → Type 0
 Shows nest folds shown = (array : ArrayId) (fold : Fold) → IsIn (array, fold) shown → IsFoldShownOf nest array.0 (fold_of folds array.0) fold
 
--- The text is accepted as a certificate of the nest and the plan, and it shows these folds.
+-- The text is accepted as a certificate of the nest and the plan, and it shows these folds. It has as many proofs as questions.
 pub record IsCertified (nest : Nest) (plan : Plan) (text : List ℕ) (folds : List (ArrayId × Fold)) : Type 0 where
   pub shown : List (ArrayId × Fold)
   pub accepted : IsAccepted nest plan text shown
   pub shows : Shows nest folds shown
+  pub each : length accepted.cert.proofs ≡ questions_among accepted.is_checked.items

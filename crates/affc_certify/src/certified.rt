@@ -62,7 +62,8 @@ fn made(
     Ok(made)
 }
 
-/// The text of a certificate that is accepted and shows these folds.
+/// The text of a certificate that is accepted and shows these folds, with a proof for each question and none behind.
+#[tactic(auto, using(crate::proofs::SpareLemmas::is_certified))]
 fn shown_text(
     alloc: Global,
     nest: &Nest,
@@ -76,6 +77,9 @@ fn shown_text(
     let Ok(Accepted { text, checked }) = accept_cert(alloc, nest, plan, cert) else {
         return Err(AllocError);
     };
+    if checked.spare != 0 {
+        return Err(AllocError);
+    }
     if are_shown(alloc, nest, folds, checked.folds.as_slice())? {
         Ok(text)
     } else {
@@ -86,8 +90,8 @@ fn shown_text(
 /// A certificate of these folds of a program, behind its draft. Where the budget ends, the fold whose questions aren't proved yet is
 /// left out: its array is left whole. Proofs of whole arrays take no units.
 ///
-/// What is made is accepted before it is answered. Where it isn't, as that of a program that isn't right, or where a proof passes
-/// the limits of a certificate, want of memory is answered.
+/// What is made is accepted before it is answered, and has as many proofs as questions. Where it isn't or hasn't, as that of a program
+/// that isn't right, or where a proof passes the limits of a certificate, want of memory is answered.
 pub fn certify(
     alloc: Global,
     nest: &Nest,

@@ -1,5 +1,5 @@
 -- Items and their proofs, one after the other.
-use Rattle.std.proofs.Common.{◌≡◌, ℕ, zero, suc, ◌+◌, ◌<◌, ◌≤◌, List, [], ◌∷◌, ◌++◌, length, map, flat_map, drop, get_or, Some, refl, sym, ap, subst, arith, ◌∙◌}
+use Rattle.std.proofs.Common.{◌≡◌, ℕ, zero, suc, ◌+◌, ◌≤◌, List, [], ◌∷◌, ◌++◌, length, map, Some, refl, sym, ap, subst, arith}
 use Rattle.std.specs.Prelude.{slice_get}
 use Rattle.std.specs.List.{All}
 use Rattle.affc_rows.specs.Forms.{Affine}
@@ -10,8 +10,6 @@ use Rattle.affc_products.specs.Parts.{IsWithin, IsProof}
 use Rattle.affc_products.specs.Blocks.{AreProved, FailsAt, block_questions}
 use Rattle.affc_products.specs.declared.block.Block.{Block}
 use Rattle.affc_products.proofs.ChoiceLemmas.{kept_within}
-use Rattle.affc_check.specs.list.Held.{listed_said}
-use Rattle.affc_check.specs.declared.list.item.Listed.{Listed}
 use Rattle.affc_check.specs.Answers.{FailsAtQuestion}
 use Rattle.affc_check.specs.list.Items.{Item, Question, Shown}
 use Rattle.affc_check.specs.Steps.{Leaves}
@@ -51,11 +49,6 @@ fails_inside (Question system ∷ is) js (p ∷ ps) (suc n) f = (f.0, fails_insi
 fails_inside (Shown system point ∷ is) js proofs zero f = f
 fails_inside (Shown system point ∷ is) js proofs (suc n) f = (f.0, fails_inside is js proofs n f.1)
 
-pub get_inside : {A : Type 0} (xs ys : List A) (n : ℕ) (x : A) → slice_get xs n ≡ Some x → slice_get (xs ++ ys) n ≡ Some x
-get_inside [] ys n x e = absurd (cc)
-get_inside (y ∷ xs) ys zero x e = e
-get_inside (y ∷ xs) ys (suc n) x e = get_inside xs ys n x e
-
 -- ---- Questions
 
 -- a question within the limits
@@ -88,15 +81,7 @@ proofs_taken [] proofs rest h = let e = ap length h in omega (arith, e)
 proofs_taken (q ∷ qs) [] rest h = absurd h
 proofs_taken (q ∷ qs) (p ∷ ps) rest h = let e = proofs_taken qs ps rest h.1 in omega (arith, e)
 
--- ---- What is listed where the loop stands
-
-pub at_front : {A : Type 0} (xs : List A) (i : ℕ) (x : A) → i < length xs → x ≡ get_or xs i x → drop i xs ≡ x ∷ drop (suc i) xs
-at_front [] i x h e = absurd (omega (arith, h))
-at_front (y ∷ ys) zero x h e = ap (λ z. z ∷ ys) (sym e)
-at_front (y ∷ ys) (suc i) x h e = at_front ys i x (omega (arith, h)) e
-
-pub front_of : {A B : Type 0} (f : A → List B) (xs : List A) (i : ℕ) (x : A) → i < length xs → x ≡ get_or xs i x → flat_map f (drop i xs) ≡ f x ++ flat_map f (drop (i + 1) xs)
-front_of f xs i x h e = let s : suc i ≡ i + 1 = omega arith in ap (flat_map f) (at_front xs i x h e ∙ ap (λ k. x ∷ drop k xs) s)
+-- ---- What stands behind
 
 pub get_behind : {A : Type 0} (xs ys : List A) (n m : ℕ) (x : A) → m ≡ length xs + n → slice_get ys n ≡ Some x → slice_get (xs ++ ys) m ≡ Some x
 get_behind [] ys n m x e h = let same : n ≡ m = omega (arith, e) in subst (λ k. slice_get ys k ≡ Some x) same h
@@ -119,26 +104,3 @@ block_fails b proofs k n h e =
     let qs = block_questions b in
     let there = question_there qs proofs k h in
     subst (FailsAtQuestion (map Question qs) proofs) e (record { first = questions_fail qs proofs k (block_within b) h; system = there.0; question = there.1 })
-
--- ---- An item of what is listed where the loop stands
-
-module _ (xs : List Listed) (i : ℕ) (x : Listed) (within : i < length xs) (is : x ≡ get_or xs i x) (proofs : List Proof) where
-  pub valid_from : (rest : List Proof) → Leaves (listed_said x) proofs rest → AreValid (flat_map listed_said (drop (i + 1) xs)) rest → AreValid (flat_map listed_said (drop i xs)) proofs
-  valid_from rest h v = subst (λ is. AreValid is proofs) (sym (front_of listed_said xs i x within is)) (valid_behind (listed_said x) (flat_map listed_said (drop (i + 1) xs)) proofs rest h v)
-
-  pub fails_from : (rest : List Proof) (n m : ℕ) → m ≡ length (listed_said x) + n → Leaves (listed_said x) proofs rest → FailsFirst (flat_map listed_said (drop (i + 1) xs)) rest n
-      → FailsFirst (flat_map listed_said (drop i xs)) proofs m
-  fails_from rest n m e h f =
-      subst (λ is. FailsFirst is proofs m) (sym (front_of listed_said xs i x within is)) (fails_behind (listed_said x) (flat_map listed_said (drop (i + 1) xs)) proofs rest n m e h f)
-
-  pub there_from : (n m : ℕ) (y : Item) → m ≡ length (listed_said x) + n → slice_get (flat_map listed_said (drop (i + 1) xs)) n ≡ Some y → slice_get (flat_map listed_said (drop i xs)) m ≡ Some y
-  there_from n m y e h = ap (λ is. slice_get is m) (front_of listed_said xs i x within is) ∙ get_behind (listed_said x) (flat_map listed_said (drop (i + 1) xs)) n m y e h
-
-  pub fails_here : (n : ℕ) → FailsFirst (listed_said x) proofs n → FailsFirst (flat_map listed_said (drop i xs)) proofs n
-  fails_here n f = subst (λ is. FailsFirst is proofs n) (sym (front_of listed_said xs i x within is)) (fails_inside (listed_said x) (flat_map listed_said (drop (i + 1) xs)) proofs n f)
-
-  pub there_here : (n : ℕ) (y : Item) → slice_get (listed_said x) n ≡ Some y → slice_get (flat_map listed_said (drop i xs)) n ≡ Some y
-  there_here n y h = ap (λ is. slice_get is n) (front_of listed_said xs i x within is) ∙ get_inside (listed_said x) (flat_map listed_said (drop (i + 1) xs)) n y h
-
-pub next_number : (number count now n length : ℕ) → now ≡ number + count → count ≡ length → number + (length + n) ≡ now + n
-next_number number count now n length e f = omega (arith, e, f)

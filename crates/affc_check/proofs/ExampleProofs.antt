@@ -21,11 +21,11 @@ use Rattle.affc_farkas.specs.Multiples.{multiple_sum, entry_of}
 use Rattle.affc_trace.specs.Examples.{blur}
 use Rattle.affc_trace.proofs.Runs.{length_append}
 use Rattle.affc_basis.specs.Examples.{x0, one_more}
+use Rattle.affc_domain.proofs.Lists.{stands_in}
 use Rattle.affc_nest.specs.Domains.{gap_row, compare_rows, number_form, with_rows}
 use Rattle.affc_nest.specs.Nests.{nest_of, nowhere}
 use Rattle.affc_nest.specs.Questions.{with_row, whole_context}
 use Rattle.affc_nest.proofs.DomainLemmas.{from_all, to_all}
-use Rattle.affc_nest.proofs.QuestionLemmas.{stands_in}
 use Rattle.affc_conflicts.specs.Questions.{distance, over_columns}
 use Rattle.affc_quast.specs.Trees.{Tree}
 use Rattle.affc_quast.specs.Trees as tree

@@ -1,4 +1,7 @@
 pub mod CheckLemmas
+pub mod LookLemmas
+pub mod PathLemmas
+pub mod AllLemmas
 pub mod Sound
 pub mod Parts
 pub mod MadeLemmas

@@ -37,7 +37,7 @@ zip_at R (z ∷ xs) [] i x h e = absurd h
 zip_at R (z ∷ xs) (y ∷ ys) zero x h e = (y, refl, subst (λ a. R a y) (same_Some z x e) h.0)
 zip_at R (z ∷ xs) (y ∷ ys) (suc i) x h e = zip_at R xs ys i x h.1 e
 
-zip_in : {A B : Type 0} (R : A → B → Type 0) (xs : List A) (ys : List B) (y : B) → AllZip R xs ys → IsIn y ys → (x : A) × IsIn x xs × R x y
+pub zip_in : {A B : Type 0} (R : A → B → Type 0) (xs : List A) (ys : List B) (y : B) → AllZip R xs ys → IsIn y ys → (x : A) × IsIn x xs × R x y
 zip_in R [] [] y h i = absurd i
 zip_in R [] (z ∷ ys) y h i = absurd h
 zip_in R (x ∷ xs) [] y h i = absurd i

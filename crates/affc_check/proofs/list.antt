@@ -3,6 +3,7 @@ pub mod PartLemmas
 pub mod ShownLemmas
 pub mod StopLemmas
 pub mod TreeLemmas
+pub mod LoadLemmas
 pub mod Over
 pub mod FoldLemmas
 pub mod ListingLemmas

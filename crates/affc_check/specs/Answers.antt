@@ -1,5 +1,5 @@
 -- What the answers of a check say.
-use Rattle.std.specs.Prelude.{◌≡◌, ℕ, ℤ, List, Some, slice_get}
+use Rattle.std.specs.Prelude.{◌≡◌, ℕ, ◌+◌, ℤ, List, length, Some, slice_get}
 use Rattle.std.specs.List.{AllZip}
 use Rattle.affc_ast.specs.declared.tree.ArrayId.{ArrayId}
 use Rattle.affc_system.specs.Systems.{Rows}
@@ -14,7 +14,7 @@ use Rattle.affc_check.specs.list.Items.{Item, Question, Shown, FoldShown}
 use Rattle.affc_check.specs.Laws.{IsFoldShown}
 use Rattle.affc_check.specs.list.Passes.{NonePasses}
 use Rattle.affc_check.specs.list.Walks.{IsListing}
-use Rattle.affc_check.specs.Valid.{AreValid, FailsFirst}
+use Rattle.affc_check.specs.Valid.{AreValid, FailsFirst, questions_among}
 use Rattle.affc_check.specs.declared.check.Checked.{Checked}
 
 -- ---- Of items
@@ -39,18 +39,20 @@ pub record IsFoldMade (f : FoldShown) (made : ArrayId × Fold) : Type 0 where
   pub array : made.0.0 ≡ f.array
   pub shown : IsFoldShown f made.1
 
--- the items of the certificate, whose folds' arrays have these clash systems, are valid
-pub record IsProved (nest : Nest) (schedule : Schedule) (c : Cert) (systems : List (List PairSystem)) : Type 0 where
+-- the items of the certificate, whose folds' arrays have these clash systems, are valid, with so many proofs behind the last question's
+pub record IsProved (nest : Nest) (schedule : Schedule) (c : Cert) (systems : List (List PairSystem)) (spare : ℕ) : Type 0 where
   pub items : List Item
   pub listing : IsListing nest schedule c items systems
   pub valid : AreValid items c.proofs
+  pub proofs : length c.proofs ≡ questions_among items + spare
 
--- the certificate is valid, and these are its folds, in order
+-- the certificate is valid, and these are its folds, in order, and the number of its proofs behind the last question's
 pub record IsChecked (nest : Nest) (schedule : Schedule) (c : Cert) (checked : Checked) : Type 0 where
   pub items : List Item
   pub are : AreItems nest schedule c items
   pub valid : AreValid items c.proofs
   pub folds : AllZip IsFoldMade are.folds checked.folds.items
+  pub proofs : length c.proofs ≡ questions_among items + checked.spare
 
 -- no part passes the limits, and the item with this number is the first that fails: a question, or a point that is shown
 pub record ProofFails (nest : Nest) (schedule : Schedule) (c : Cert) (n : ℕ) : Type 0 where

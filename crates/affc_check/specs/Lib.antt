@@ -1,6 +1,7 @@
 pub mod Valid
 pub mod Steps
 pub mod Answers
+pub mod Looked
 pub mod Made
 pub mod Laws
 pub mod Layouts

@@ -16,6 +16,12 @@ pub record IsProved (question : Rows) (proof : Proof) : Type 0 where
   pub valid : ValidProof question proof
   pub few : (rows : List Affine) → StandAtNode question.rows proof rows → length rows ≤ 1024
 
+-- how many questions are among the items
+abbrev pub questions_among : List Item → ℕ
+questions_among [] = 0
+questions_among (Shown system point ∷ is) = questions_among is
+questions_among (Question system ∷ is) = suc (questions_among is)
+
 -- each point meets its rows, and each question has a proof, in order; proofs behind these aren't looked at
 abbrev pub AreValid : List Item → List Proof → Type 0
 AreValid [] proofs = Unit {0}

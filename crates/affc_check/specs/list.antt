@@ -6,5 +6,6 @@ pub mod Passes
 pub mod Listed
 pub mod Walks
 pub mod Groups
+pub mod Loads
 pub mod Stops
 pub mod Laws

@@ -1,17 +1,18 @@
 //! Whether certificates are valid.
-ghost use Rattle.std.specs.Prelude.{flat_map, ◌≡◌, ◌≢◌, ℕ, map, IfOk, IfErr, OnOk};
+ghost use Rattle.std.specs.Prelude.{◌≡◌, ◌≢◌, ℕ, map, IfOk, IfErr, OnOk};
 ghost use Rattle.affc_quast.specs.Seen.{trees_of};
 ghost use Rattle.affc_sched.specs.Legality.{IsAsked};
 ghost use Rattle.affc_check.specs.list.Certs.{AreItems, IsCertWithin};
-ghost use Rattle.affc_check.specs.list.Groups.{AreGroups};
-ghost use Rattle.affc_check.specs.list.Held.{item_said, listed_said};
+ghost use Rattle.affc_check.specs.list.Held.{item_said};
 ghost use Rattle.affc_check.specs.list.Passes.{PassesFirst, NonePasses};
-ghost use Rattle.affc_check.specs.list.Walks.{clash_systems, AreSystems, IsListing};
+ghost use Rattle.affc_check.specs.list.Walks.{clash_systems, AreSystems};
 ghost use Rattle.affc_check.specs.Answers.{IsChecked, IsProved, ProofFails, ShownFails};
+ghost use Rattle.affc_check.specs.Looked.{IsAllValid, QuestionFails, PointFails};
 
-use crate::checks::check_listed;
+use crate::checks::Looked;
 use crate::fault::CheckFault;
-use crate::list::{Groups, Item, Listed, PartStop, all_items, groups_of, list_all, systems_of};
+use crate::list::{Item, PartStop, all_items, systems_of};
+use crate::looks::look_items;
 use crate::made::add_made;
 use affc_ast::tree::ArrayId;
 use affc_basis::Fold;
@@ -22,10 +23,11 @@ use affc_trace::schedule::Schedule;
 use sqlite_items::Items;
 use std::alloc::Global;
 
-/// What a valid certificate says: the folds of arrays, with their marks.
+/// What a valid certificate says: the folds of arrays, with their marks. So many of its proofs stand behind the last question's.
 #[derive(Drop)]
 pub struct Checked {
     pub folds: Vec<(ArrayId, Fold)>,
+    pub spare: usize,
 }
 
 /// The items of a certificate, in order.
@@ -50,53 +52,42 @@ pub fn items(
     }
 }
 
-/// The items of a certificate in product form, whose folds' arrays have these clash systems and whose trees and schedule these
-/// questions.
-fn listed_items<'a>(
-    alloc: Global,
-    nest: &'a Nest,
-    schedule: &Schedule,
-    cert: &'a Cert,
-    systems: &'a [Items<ClashProduct>],
-    groups: &'a Groups,
-) -> Result<Vec<Listed<'a>>, CheckFault>
-    requires asked { IsAsked nest.now schedule.now }
-    requires certificate { IsCertWithin nest.now cert.now }
-    requires systems { AreSystems nest.now schedule.now (trees_of cert.now.flow) cert.now.folds (map clash_systems systems.now) }
-    requires groups { AreGroups nest.now schedule.now (trees_of cert.now.flow) groups.now }
-    ensures ok { IfOk result (λ l. IsListing nest.now schedule.now cert.now (flat_map listed_said l.items) (map clash_systems systems.now)) }
-    ensures number { IfErr result (λ e. (part : ℕ) → e ≡ CheckFault.Number part → PassesFirst nest.now schedule.now cert.now part) }
-    ensures proof { IfErr result (λ e. (n : ℕ) → e ≢ CheckFault.Proof n) }
-    ensures shown { IfErr result (λ e. (n : ℕ) → e ≢ CheckFault.Shown n) }
+/// How many proofs are left where all items that are looked at hold, or the first that fails.
+fn verdict(looked: Looked<'_>) -> Result<usize, CheckFault>
+    ensures ok { IfOk result (IsAllValid looked.entry) }
+    ensures proof { IfErr result (λ e. (n : ℕ) → e ≡ CheckFault.Proof n → QuestionFails looked.entry n) }
+    ensures shown { IfErr result (λ e. (n : ℕ) → e ≡ CheckFault.Shown n → PointFails looked.entry n) }
+    ensures number { IfErr result (λ e. (n : ℕ) → e ≢ CheckFault.Number n) }
 {
-    match list_all(alloc, nest, schedule, cert, systems, groups) {
-        Ok(listed) => Ok(listed),
-        Err(PartStop::Part(part)) => Err(CheckFault::Number(part)),
-        Err(PartStop::Memory) => Err(CheckFault::Memory),
+    match looked {
+        Looked::Holding(rest, _) => Ok(rest.len()),
+        Looked::Unproved(item) => Err(CheckFault::Proof(item)),
+        Looked::Unmet(item) => Err(CheckFault::Shown(item)),
     }
 }
 
-/// Checks the items of a certificate, whose folds' arrays have these clash systems. Of the faults the first part whose questions pass
-/// the limits comes before any item.
+/// Checks the items of a certificate, whose folds' arrays have these clash systems: how many proofs are left. Of the faults the first
+/// part whose questions pass the limits comes before any item.
 fn check_items(
     alloc: Global,
     nest: &Nest,
     schedule: &Schedule,
     cert: &Cert,
     systems: &[Items<ClashProduct>],
-) -> Result<(), CheckFault>
+) -> Result<usize, CheckFault>
     requires asked { IsAsked nest.now schedule.now }
     requires certificate { IsCertWithin nest.now cert.now }
     requires systems { AreSystems nest.now schedule.now (trees_of cert.now.flow) cert.now.folds (map clash_systems systems.now) }
-    ensures ok { OnOk result (IsProved nest.now schedule.now cert.now (map clash_systems systems.now)) }
+    ensures ok { IfOk result (IsProved nest.now schedule.now cert.now (map clash_systems systems.now)) }
     ensures number { IfErr result (λ e. (part : ℕ) → e ≡ CheckFault.Number part → PassesFirst nest.now schedule.now cert.now part) }
     ensures proof { IfErr result (λ e. (n : ℕ) → e ≡ CheckFault.Proof n → ProofFails nest.now schedule.now cert.now n) }
     ensures shown { IfErr result (λ e. (n : ℕ) → e ≡ CheckFault.Shown n → ShownFails nest.now schedule.now cert.now n) }
 {
-    let groups = groups_of(alloc, nest, schedule, cert)?;
-    let listed = listed_items(alloc, nest, schedule, cert, systems, &groups)?;
-    check_listed(alloc, listed.as_slice(), cert.proofs.as_slice())?;
-    Ok(())
+    match look_items(alloc, nest, schedule, cert, systems) {
+        Ok(looked) => verdict(looked),
+        Err(PartStop::Part(part)) => Err(CheckFault::Number(part)),
+        Err(PartStop::Memory) => Err(CheckFault::Memory),
+    }
 }
 
 /// Checks a certificate: its folds where it is valid. Of the faults the first part whose questions pass the limits comes before
@@ -116,9 +107,9 @@ pub fn check_all(
 {
     let systems = systems_of(alloc, nest, schedule, cert)?;
     let systems = systems.as_slice();
-    check_items(alloc, nest, schedule, cert, systems)?;
+    let spare = check_items(alloc, nest, schedule, cert, systems)?;
     let mut folds = Vec::new(alloc);
     let said = cert.folds.as_slice();
     add_made(alloc, nest, said, systems, &mut folds)?;
-    Ok(Checked { folds })
+    Ok(Checked { folds, spare })
 }

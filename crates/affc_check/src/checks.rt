@@ -1,15 +1,15 @@
 //! Items and their proofs, one after the other.
-ghost use Rattle.std.specs.Prelude.{◌↔◌, ℕ, List, [], ◌∷◌, ◌+◌, length, IfOk, IfErr, IsTrue, OnOk, ◌≡◌, ◌≢◌, map, flat_map};
+ghost use Rattle.std.specs.Prelude.{◌↔◌, ℕ, List, [], ◌∷◌, ◌+◌, length, IfOk, IsTrue, ◌≡◌, map, flat_map};
 ghost use Rattle.affc_farkas.specs.declared.proof.Proof.{Proof};
 ghost use Rattle.affc_system.specs.Systems.{IsPoint};
 ghost use Rattle.affc_products.specs.Blocks.{block_questions};
 ghost use Rattle.affc_check.specs.Answers.{FailsAtQuestion, FailsAtPoint};
 ghost use Rattle.affc_check.specs.list.Held.{listed_said};
 ghost use Rattle.affc_check.specs.list.Items.{Question};
+ghost use Rattle.affc_check.specs.Looked.{LooksOn, Looks};
 ghost use Rattle.affc_check.specs.Steps.{Leaves, IsHolding, IsUnproved, IsUnmet};
-ghost use Rattle.affc_check.specs.Valid.{IsProved, AreValid};
+ghost use Rattle.affc_check.specs.Valid.{IsProved};
 
-use crate::fault::CheckFault;
 use crate::list::{Item, Listed, Point};
 use affc_farkas::Proof;
 use affc_products::{Block, Step, is_proof};
@@ -121,28 +121,72 @@ fn further(number: usize, by: usize) -> Result<usize, AllocError>
     }
 }
 
-/// Whether items are valid with these proofs, one for each question in order, or the first item that fails.
-pub(crate) fn check_listed(
+/// How far the items of a certificate are looked at.
+#[derive(Clone, Copy, Drop)]
+pub(crate) enum Looked<'p> {
+    /// All of them hold, so many, and these proofs are left.
+    Holding(&'p [Proof], usize),
+    /// The item with this number, from 0, is the first that fails: a question.
+    Unproved(usize),
+    /// The same, a point that is shown.
+    Unmet(usize),
+}
+
+/// Looks at what is listed behind so many items that hold and leave these proofs.
+fn look_on<'p>(
     alloc: Global,
-    items: &[Listed<'_>],
-    proofs: &[Proof],
-) -> Result<(), CheckFault>
-    ensures ok { OnOk result (AreValid (flat_map listed_said items.now) proofs.now) }
-    ensures proof { IfErr result (λ e. (n : ℕ) → e ≡ CheckFault.Proof n → FailsAtQuestion (flat_map listed_said items.now) proofs.now n) }
-    ensures shown { IfErr result (λ e. (n : ℕ) → e ≡ CheckFault.Shown n → FailsAtPoint (flat_map listed_said items.now) proofs.now n) }
-    ensures number { IfErr result (λ e. (n : ℕ) → e ≢ CheckFault.Number n) }
+    listed: &Listed<'_>,
+    rest: &'p [Proof],
+    number: usize,
+) -> Result<Looked<'p>, AllocError>
+    ensures { IfOk result (λ new. LooksOn rest.now number new (listed_said listed.now)) }
 {
-    let mut rest = proofs;
-    let mut number = 0;
-    for (i, listed) in items.iter().enumerate() {
-        match outcome_of(alloc, listed, rest)? {
-            Outcome::Holds(more) => {
-                number = further(number, count(listed, rest, more))?;
-                rest = more;
-            }
-            Outcome::Unproved(at) => return Err(CheckFault::Proof(further(number, at)?)),
-            Outcome::Unmet(at) => return Err(CheckFault::Shown(further(number, at)?)),
+    match outcome_of(alloc, listed, rest)? {
+        Outcome::Holds(more) => {
+            let next = further(number, count(listed, rest, more))?;
+            Ok(Looked::Holding(more, next))
+        }
+        Outcome::Unproved(at) => {
+            let failed = further(number, at)?;
+            Ok(Looked::Unproved(failed))
+        }
+        Outcome::Unmet(at) => {
+            let failed = further(number, at)?;
+            Ok(Looked::Unmet(failed))
         }
     }
-    Ok(())
+}
+
+/// Looks at what is listed, unless an item before it fails.
+fn look_at<'p>(
+    alloc: Global,
+    listed: &Listed<'_>,
+    looked: Looked<'p>,
+) -> Result<Looked<'p>, AllocError>
+    ensures { IfOk result (λ new. Looks looked.entry new (listed_said listed.now)) }
+{
+    match looked {
+        Looked::Holding(rest, number) => look_on(alloc, listed, rest, number),
+        Looked::Unproved(_) => Ok(looked),
+        Looked::Unmet(_) => Ok(looked),
+    }
+}
+
+/// Looks at all that is listed, up to the first item that fails. The recursion is into halves, since there may be many.
+pub(crate) fn look_all<'p>(
+    alloc: Global,
+    listed: &[Listed<'_>],
+    looked: Looked<'p>,
+) -> Result<Looked<'p>, AllocError>
+    ensures { IfOk result (λ new. Looks looked.entry new (flat_map listed_said listed.now)) }
+{
+    match listed {
+        [] => Ok(looked),
+        [one] => look_at(alloc, one, looked),
+        _ => {
+            let (first, others) = listed.split_at(listed.len() / 2);
+            let half = look_all(alloc, first, looked)?;
+            look_all(alloc, others, half)
+        }
+    }
 }

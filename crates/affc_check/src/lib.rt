@@ -7,6 +7,7 @@ pub mod examples;
 pub mod fault;
 pub mod laws;
 pub mod list;
+mod looks;
 mod made;
 
 pub use check::{Checked, check_all, items};

@@ -8,9 +8,9 @@ use Rattle.affc_ast.specs.declared.tree.Rel.TheVariants.{Less, Greater, Equal}
 use Rattle.affc_trace.specs.Law.{IsIn}
 use Rattle.affc_trace.proofs.Members.{to_flat_map}
 use Rattle.affc_trace.proofs.Once.{in_flat_map}
+use Rattle.affc_domain.proofs.ColumnLemmas.{first_columns, later_columns, cons_is}
 use Rattle.affc_nest.specs.Domains.{compare_rows}
 use Rattle.affc_nest.proofs.DomainLemmas.{met_append, met_both, rows_say, say_rows, from_all}
-use Rattle.affc_order.proofs.ColumnLemmas.{first_columns, later_columns, cons_is}
 use Rattle.affc_order.proofs.LexLemmas.{equal_met}
 use Rattle.affc_life.specs.Clashes.{apart_rows, differing, between_rows}
 

@@ -1,6 +1,6 @@
 -- The ranges of a clash system hold its points.
-use Rattle.std.proofs.Common.{◌≡◌, ℕ, ◌+◌, ◌^◌, ◌≤◌, ℤ, IsTrue, List, [], ◌∷◌, ◌++◌, length, take, refl, sym, ap, subst, ◌∙◌, inl, inr, arith}
-use Rattle.std.specs.Prelude.{unsigned_abs, ◌&&◌}
+use Rattle.std.proofs.Common.{◌≡◌, ℕ, ◌+◌, ℤ, IsTrue, List, [], ◌∷◌, ◌++◌, length, take, refl, sym, ap, subst, ◌∙◌, inl, inr, arith}
+use Rattle.std.specs.Prelude.{◌&&◌}
 use Rattle.std.specs.List.{All}
 use Rattle.std.proofs.lemmas.List.Elements.{All-nil, All-cons, All-append}
 use Rattle.affc_system.specs.Boxes.{InBox}
@@ -10,15 +10,14 @@ use Rattle.affc_trace.specs.Law.{IsIn}
 use Rattle.affc_trace.proofs.EndedReads.{append_assoc}
 use Rattle.affc_trace.proofs.Runs.{length_append}
 use Rattle.affc_domain.specs.Ranges.{is_near, number_ranges}
-use Rattle.affc_domain.proofs.RangeLemmas.{in_ranges}
+use Rattle.affc_domain.proofs.RangeLemmas.{in_ranges, box_append}
 use Rattle.affc_nest.specs.declared.nest.Entry.{Entry}
 use Rattle.affc_nest.specs.Laws.{HasNest, AreRanges}
 use Rattle.affc_nest.specs.Nests.{nest_of}
-use Rattle.affc_nest.specs.Sides.{NearRanges}
 use Rattle.affc_nest.proofs.EntryLemmas.{ranges_hold_iterators}
-use Rattle.affc_nest.proofs.IntervalLemmas.{close_range}
+use Rattle.affc_nest.proofs.IntervalLemmas.{close_range, reach, near_reach}
 use Rattle.affc_nest.proofs.PlaceProofs.{near_params}
-use Rattle.affc_sched.proofs.LegalLemmas.{instance_of, entry_at, box_append}
+use Rattle.affc_sched.proofs.LegalLemmas.{instance_of, entry_at}
 use Rattle.affc_quast.specs.Leaves.{leaves_of, path_ranges}
 use Rattle.affc_quast.specs.Limits.{Shaped}
 use Rattle.affc_quast.proofs.RangeLemmas.{path_ranges_long, path_ranges_near, leaf_count, leaf_box}
@@ -29,19 +28,9 @@ use Rattle.affc_life.proofs.MadeLemmas.{made}
 
 -- ---- Ends within 2^60
 
-reaches : (r : ℤ × ℤ) → (unsigned_abs r.0 ≤ 2 ^ 32) × (unsigned_abs r.1 ≤ 2 ^ 32) → WithinReach r
-reaches r h = record { low = more (unsigned_abs r.0) h.0; high = more (unsigned_abs r.1) h.1 }
-  where
-    more : (n : ℕ) → n ≤ 2 ^ 32 → n ≤ 2 ^ 60
-    more n h = omega (arith, h)
-
-pub all_reach : (rs : List (ℤ × ℤ)) → NearRanges rs → All WithinReach rs
-all_reach [] h = All-nil WithinReach
-all_reach (r ∷ rs) h = All-cons WithinReach r rs (reaches r (h.0, h.1)) (all_reach rs h.2)
-
 each_reach : (rs : List (ℤ × ℤ)) → ((r : ℤ × ℤ) → IsIn r rs → IsTrue (is_near r.0 && is_near r.1)) → All WithinReach rs
 each_reach [] h = All-nil WithinReach
-each_reach (r ∷ rs) h = All-cons WithinReach r rs (reaches r (close_range r (h r (inl refl)))) (each_reach rs (λ q i. h q (inr i)))
+each_reach (r ∷ rs) h = All-cons WithinReach r rs (reach r (close_range r (h r (inl refl)))) (each_reach rs (λ q i. h q (inr i)))
 
 module _ (program : Program) (has : HasNest program) (e : Entry) (e_in : IsIn e (nest_of program).entries) (alive : IsTrue e.alive) where
   pub ranges_are : AreRanges program e.part e
@@ -71,7 +60,7 @@ clashes_are_boxed program trees schedule array c has shaped near asked =
           ∙ ap (λ n. k.leaf.columns + n) rw.each ∙ sym (ap (λ (c : Clash). c.system.columns) k.of_leaf.is);
       within = subst (All WithinReach) (sym are)
           (All-append WithinReach path w.ranges
-          (path_ranges_near start k.leaf.divisions (All-append WithinReach params e.ranges (all_reach params (near_params params program refl has.plain)) (entry_reach program has e k.reader_in k.alive)))
+          (path_ranges_near start k.leaf.divisions (All-append WithinReach params e.ranges (near_reach params (near_params params program refl has.plain)) (entry_reach program has e k.reader_in k.alive)))
           (entry_reach program has w k.of_leaf.writer_in k.of_leaf.writer_alive));
       holds = λ point is.
           let p : List ℤ = take m point in

@@ -10,8 +10,7 @@ use Rattle.affc_trace.specs.Laws.{IsInContext}
 use Rattle.affc_trace.specs.Target.{numbers_in}
 use Rattle.affc_domain.specs.Plain.{IsPlain}
 use Rattle.affc_domain.specs.Ranges.{number_ranges}
-use Rattle.affc_domain.proofs.RangeLemmas.{box_length}
-use Rattle.affc_order.proofs.TimeLemmas.{numbers_are}
+use Rattle.affc_domain.proofs.RangeLemmas.{box_length, numbers_are}
 use Rattle.affc_conflicts.specs.Conditions.{IsNear}
 use Rattle.affc_weigh.specs.Choices.{IsNearContext}
 use Rattle.affc_life.proofs.NestLemmas.{near_ranges, to_context}

@@ -12,12 +12,12 @@ use Rattle.affc_trace.specs.declared.schedule.Schedule.{Schedule}
 use Rattle.affc_trace.specs.declared.schedule.Schedule.TheVariants.{Source, Time}
 use Rattle.affc_trace.specs.Inverses.{columns_from}
 use Rattle.affc_trace.specs.Law.{IsIn}
+use Rattle.affc_domain.proofs.Lists.{stands_in}
 use Rattle.affc_nest.specs.Asked.{IsNest}
 use Rattle.affc_nest.specs.declared.nest.Entry.{Entry}
 use Rattle.affc_nest.specs.declared.nest.Nest.{Nest}
 use Rattle.affc_nest.specs.Parts.{statement_of}
 use Rattle.affc_nest.specs.Domains.{gap_row}
-use Rattle.affc_nest.proofs.QuestionLemmas.{stands_in}
 use Rattle.affc_order.specs.Placed.{IsPlaced}
 use Rattle.affc_order.specs.Posed.{Posed}
 use Rattle.affc_order.specs.Spread.{spread}

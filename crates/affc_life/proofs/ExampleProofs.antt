@@ -1,6 +1,8 @@
 -- Each example computes; a chain's systems have no point.
-use Rattle.std.proofs.Common.{ℤ, pos, negsuc, ◌+ℤ◌, ◌*ℤ◌, ◌≤ℤ◌, List, [], ◌∷◌, refl, sym, subst, inl, inr, arith}
+use Rattle.std.proofs.Common.{◌≡◌, ℕ, zero, suc, max, ◌≤◌, ℤ, pos, negsuc, ◌+ℤ◌, ◌*ℤ◌, ◌≤ℤ◌, List, [], ◌∷◌, refl, sym, subst, inl, inr, arith}
+use Rattle.std.specs.Prelude.{unsigned_abs}
 use Rattle.std.proofs.lemmas.Int.{ints}
+use Rattle.std.proofs.lemmas.List.Elements.{All-nil}
 use denote.Hole.Carrier.{hidden}
 use Rattle.affc_ast.specs.declared.tree.Ix.TheBlock.{shape-the_row-Ix-0, hidden-the_row-Ix-0}
 use Rattle.affc_ast.specs.declared.tree.Val.TheBlock.{shape-the_row-Val-0, hidden-the_row-Val-0}
@@ -9,8 +11,11 @@ use Rattle.affc_system.specs.Systems.{HasNoPoint}
 use Rattle.affc_rows.specs.Forms.{Affine}
 use Rattle.affc_trace.specs.Law.{IsIn}
 use Rattle.affc_nest.proofs.DomainLemmas.{from_all}
+use Rattle.affc_quast.specs.Limits.{Shaped, FitsTree, widest}
+use Rattle.affc_quast.specs.Trees.{depth_of}
+use Rattle.affc_life.specs.Asked.{NamesParts}
 use Rattle.affc_life.specs.Clashes.{Clash}
-use Rattle.affc_life.specs.Examples.{form, BlurHasTwelve, BlurHasSix, OthersHaveNone, MiddleClashes, BothOrders, NeverLoaded, AcrossArrays, AcrossOrders, chain_front, chain_orders, chain_clash, ChainClashes, OwnStoreIsNone, HalvedClashes, DimensionsInTurn, LastOneIsNoLoad, NoneOfTheDead}
+use Rattle.affc_life.specs.Examples.{form, BlurHasTwelve, BlurHasSix, OthersHaveNone, MiddleClashes, BothOrders, NeverLoaded, AcrossArrays, AcrossOrders, chain_front, chain_orders, chain_clash, ChainClashes, OwnStoreIsNone, HalvedClashes, LivesToLastLoad, OwnStoreAlone, deep, in_turn, DepthsOfTrees, DimensionsInTurn, RowsInTurn, LastOneIsNoLoad, NoneOfTheDead}
 
 pub blur_has_twelve : BlurHasTwelve
 unfolding shape-the_row-Ix-0 hidden-the_row-Ix-0 shape-the_row-Val-0 hidden-the_row-Val-0 shape-the_row-Stmt-0 hidden-the_row-Stmt-0 hidden
@@ -48,6 +53,46 @@ across_orders = refl
 
 pub dimensions_in_turn : DimensionsInTurn
 dimensions_in_turn = (refl, refl)
+
+pub rows_in_turn : RowsInTurn
+rows_in_turn = refl
+
+pub lives_to_last_load : LivesToLastLoad
+lives_to_last_load = refl
+
+pub own_store_alone : OwnStoreAlone
+own_store_alone = refl
+
+shaped_deep : (n : ℕ) → Shaped 0 (deep n)
+shaped_deep zero = tt
+shaped_deep (suc n) = (refl, shaped_deep n, tt)
+
+named_deep : (n : ℕ) → NamesParts in_turn (deep n)
+named_deep zero = tt
+named_deep (suc n) = (named_deep n, tt)
+
+fits_deep : (n : ℕ) → FitsTree widest (deep n)
+fits_deep zero = tt
+fits_deep (suc n) = (record { coefs_fit = All-nil (λ c. unsigned_abs c ≤ widest.coefs); constant_fits = omega arith }, fits_deep n, tt)
+
+one_more : (m n : ℕ) → m ≡ n → suc (max m 0) ≡ suc n
+one_more m n e = omega (arith, e)
+
+depth_deep : (n : ℕ) → depth_of (deep n) ≡ n
+depth_deep zero = refl
+depth_deep (suc n) = one_more (depth_of (deep n)) n (depth_deep n)
+
+no_deeper : (d : ℕ) → d ≡ 401 → d ≤ 400 → ⊥
+no_deeper d e h = omega arith
+
+as_deep : (d : ℕ) → d ≡ 400 → d ≤ 400
+as_deep d e = omega arith
+
+pub depths_of_trees : DepthsOfTrees
+depths_of_trees = (
+  record { shaped = shaped_deep 400; named = named_deep 400; fits = fits_deep 400; short = as_deep (depth_of (deep 400)) (depth_deep 400) },
+  λ keeps. no_deeper (depth_of (deep 401)) (depth_deep 401) keeps.short,
+)
 
 pub last_one_is_no_load : LastOneIsNoLoad
 last_one_is_no_load = refl

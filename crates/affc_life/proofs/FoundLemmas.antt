@@ -5,8 +5,8 @@ use Rattle.std.proofs.lemmas.List.Elements.{All-weaker}
 use Rattle.std.proofs.lemmas.Option.{same_Some}
 use Rattle.affc_rows.specs.Forms.{Affine}
 use Rattle.affc_rows.proofs.SizeLemmas.{within_raised}
+use Rattle.affc_domain.proofs.Lists.{there_is}
 use Rattle.affc_nest.specs.declared.nest.Nest.{Nest}
-use Rattle.affc_nest.proofs.QuestionLemmas.{there_is}
 use Rattle.affc_quast.specs.Limits.{FitsForm, FitsTree, NamesStores, narrow, widest}
 use Rattle.affc_quast.specs.Trees.{Tree, Test, Div, Source, Input, depth_of}
 use Rattle.affc_life.specs.Asked.{NamesParts, KeepsLimits}

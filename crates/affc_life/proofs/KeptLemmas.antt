@@ -9,9 +9,8 @@ use Rattle.affc_system.specs.Systems.{Rows, FitsRow, IsRow}
 use Rattle.affc_system.specs.declared.pairs.PairSystem.{PairSystem}
 use Rattle.affc_trace.specs.Law.{IsIn}
 use Rattle.affc_trace.proofs.Members.{in_map, to_map, to_flat_map}
-use Rattle.affc_domain.proofs.Lists.{from_map}
+use Rattle.affc_domain.proofs.Lists.{from_map, stands_in, in_all}
 use Rattle.affc_nest.specs.Domains.{with_rows}
-use Rattle.affc_nest.proofs.QuestionLemmas.{stands_in}
 use Rattle.affc_products.specs.Blocks.{choices, product, AnyPast}
 use Rattle.affc_products.specs.Parts.{IsWithin}
 use Rattle.affc_life.specs.declared.draft.Draft.{Draft}
@@ -46,11 +45,6 @@ choice_here factors rest alternatives P is some h =
 pub no_choice : (cs : List (List Affine)) → (cs ≢ [] → ⊥) → cs ≡ []
 no_choice [] n = refl
 no_choice (c ∷ cs) n = absurd (n (λ e. absurd (cc)))
-
-all_at : {A : Type 0} (P : A → Type 0) (xs : List A) (x : A) → All P xs → IsIn x xs → P x
-all_at P [] x h i = absurd i
-all_at P (y ∷ xs) x h (inl e) = subst P (sym e) (All-head P y xs h)
-all_at P (y ∷ xs) x h (inr i) = all_at P xs x (All-tail P y xs h) i
 
 either : (n m : ℕ) → (n ≤ m) ⊎ (m < n)
 either zero m = inl (omega arith)
@@ -102,7 +96,7 @@ module _ (d : Draft) where
   none_past tails e h any =
       let m = in_map (draft_by d) (choices d.factors) any.clash any.there in
       within_fits any.clash.system
-      (subst (λ (c : Clash). IsWithin c.system) (sym m.2) (all_at IsWithin (product d.columns d.front.items d.factors) (make m.0) (subst (All IsWithin) (questions_are tails e) h) (to_map make (choices d.factors) m.0 m.1)))
+      (subst (λ (c : Clash). IsWithin c.system) (sym m.2) (in_all IsWithin (product d.columns d.front.items d.factors) (make m.0) (subst (All IsWithin) (questions_are tails e) h) (to_map make (choices d.factors) m.0 m.1)))
       any.large
 
   pub one_past : (tails : List (List Affine)) → tails ≡ [] ∷ [] → All IsPaired (drafted d) → AnyPast (product d.columns d.front.items (d.factors ++ tails ∷ [])) → AnyLarge (drafted d)
@@ -113,7 +107,7 @@ module _ (d : Draft) where
       record {
         clash = draft_by d m.0;
         there = there;
-        large = not_within (make m.0) (all_at IsPaired (drafted d) (draft_by d m.0) paired there).width (λ w. past.past (subst IsWithin (sym m.2) w));
+        large = not_within (make m.0) (in_all IsPaired (drafted d) (draft_by d m.0) paired there).width (λ w. past.past (subst IsWithin (sym m.2) w));
       }
 
   -- ---- Where there is a choice
@@ -134,7 +128,7 @@ module _ (d : Draft) where
 
     module _ (paired : All IsPaired (drafted d)) where
       first_paired : IsPaired (draft_by d first_choice)
-      first_paired = all_at IsPaired (drafted d) (draft_by d first_choice) paired first_there
+      first_paired = in_all IsPaired (drafted d) (draft_by d first_choice) paired first_there
 
       pub front_wide : HaveColumns d.columns d.front.items
       front_wide = all_first (λ f. length f.coefs ≡ d.columns) d.front.items first_choice first_paired.width
@@ -158,7 +152,7 @@ product_made base factors d s r i j f =
     same rows k = record { system = with_rows (s k) rows; ranges = r k; x = i k; y = j k }
 
 -- the rows of its factors
-alternatives_there : (fs : List (List (List Affine))) → choices fs ≢ [] → Chosen fs
+pub alternatives_there : (fs : List (List (List Affine))) → choices fs ≢ [] → Chosen fs
 alternatives_there [] n = tt
 alternatives_there ([] ∷ fs) n = absurd (n refl)
 alternatives_there ((u ∷ us) ∷ fs) n = (omega arith, alternatives_there fs (λ e. n (ap (λ cs. flat_map (λ u. map (λ v. u ++ v) cs) (u ∷ us)) e ∙ no_maps (u ∷ us))))

@@ -12,6 +12,7 @@ pub mod QuotientLemmas
 pub mod SeatedLemmas
 pub mod LeafLemmas
 pub mod WalkLemmas
+pub mod PathLemmas
 pub mod SubscriptLemmas
 pub mod RowLemmas
 pub mod DraftedLemmas

@@ -5,8 +5,8 @@ use Rattle.std.proofs.lemmas.List.Elements.{All-nil, All-cons, All-head, All-tai
 use Rattle.affc_rows.specs.Forms.{Affine, HaveColumns}
 use Rattle.affc_rows.specs.Sizes.{IsWithin}
 use Rattle.affc_rows.proofs.SizeLemmas.{padded_within, spread_within}
+use Rattle.affc_domain.proofs.ColumnLemmas.{first_columns, later_columns}
 use Rattle.affc_order.specs.Spread.{spread}
-use Rattle.affc_order.proofs.ColumnLemmas.{first_columns, later_columns}
 use Rattle.affc_quast.specs.Leaves.{padded}
 use Rattle.affc_quast.specs.Limits.{Bounds, FitsForm}
 

@@ -4,6 +4,7 @@ use Rattle.std.specs.Prelude.{slice_get}
 use Rattle.std.specs.List.{Contains}
 use Rattle.std.proofs.lemmas.List.{length-take-le}
 use Rattle.std.proofs.lemmas.Option.{same_Some}
+use Rattle.std.proofs.Math.Seq.{take-append_seam}
 use Rattle.affc_rows.specs.Forms.{values_of}
 use Rattle.affc_system.specs.ElementPairs.{IsPairAt}
 use Rattle.affc_system.specs.Systems.{Met, IsPoint}
@@ -29,13 +30,13 @@ use Rattle.affc_trace.proofs.Sources.{source_in_its_own_words}
 use Rattle.affc_trace.proofs.Targets.{target_is_reordered}
 use Rattle.affc_domain.specs.Ranges.{number_ranges}
 use Rattle.affc_domain.proofs.RangeLemmas.{box_length, in_ranges}
+use Rattle.affc_domain.proofs.Lists.{stands_in}
 use Rattle.affc_nest.specs.declared.nest.Access.{Access}
 use Rattle.affc_nest.specs.declared.nest.Entry.{Entry}
 use Rattle.affc_nest.specs.declared.nest.Nest.{Nest}
 use Rattle.affc_nest.specs.Laws.{HasNest, IsEntry, NamesArrays, element_at}
 use Rattle.affc_nest.specs.Nests.{nest_of}
 use Rattle.affc_nest.proofs.DomainLemmas.{from_all, to_all}
-use Rattle.affc_nest.proofs.QuestionLemmas.{stands_in}
 use Rattle.affc_order.specs.Posed.{Posed}
 use Rattle.affc_sched.proofs.LegalLemmas.{Stood, instance_of, entry_at, events_are, as_many_each, stood}
 use Rattle.affc_quast.specs.Laws.{Leads}
@@ -50,7 +51,7 @@ use Rattle.affc_life.proofs.MadeLemmas.{Made, made, in_walk}
 use Rattle.affc_life.proofs.ApartLemmas.{Between}
 use Rattle.affc_life.proofs.PointLemmas.{zs_long, x_value, y_value, Facts, front_says, first, second, parts, clash_says, says_clash}
 use Rattle.affc_life.proofs.ReadLemmas.{load_is, store_is, store_there, loaded}
-use Rattle.affc_life.proofs.SeatLemmas.{take_front, seat}
+use Rattle.affc_life.proofs.SeatLemmas.{seat}
 
 -- ---- A point of a clash system, cut
 
@@ -302,7 +303,7 @@ module _ (program : Program) (has : HasNest program) (arrays : NamesArrays progr
         });
         point = p ++ (bs ++ (qs ++ cs));
         meets = record { width = sym (zs_long program has p bs qs cs l e leaf w s t over at_leaf.width); meets = to_all (p ++ (bs ++ (qs ++ cs))) z.0 z.2 };
-        front = take_front p (bs ++ (qs ++ cs));
+        front = take-append_seam p (bs ++ (qs ++ cs));
         first = x_value program has p bs qs cs l e leaf w s t over at_leaf.width load load_in ∙ x_at;
         second = y_value program has p bs qs cs l e leaf w s t over at_leaf.width store store_in ∙ y_at;
       }

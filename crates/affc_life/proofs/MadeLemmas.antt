@@ -1,5 +1,5 @@
 -- Which clash systems there are.
-use Rattle.std.proofs.Common.{◌≡◌, ℕ, ◌+◌, ◌-◌, ◌<◌, Bool, true, false, IsTrue, if◌then◌else◌, List, [], length, flat_map, Option, Some, None, refl, sym, subst, ◌∙◌, arith}
+use Rattle.std.proofs.Common.{◌≡◌, ℕ, ◌+◌, ◌-◌, ◌<◌, IsTrue, if◌then◌else◌, List, [], length, flat_map, Option, Some, None, refl, sym, subst, ◌∙◌, arith}
 use Rattle.std.specs.Prelude.{nat_eq, slice_get}
 use Rattle.std.proofs.lemmas.Bool.{eq-eqb, eqb-true}
 use Rattle.affc_rows.specs.Forms.{Affine}
@@ -7,6 +7,7 @@ use Rattle.affc_trace.specs.declared.schedule.Schedule.{Schedule}
 use Rattle.affc_trace.specs.Law.{IsIn}
 use Rattle.affc_trace.proofs.Members.{in_map, to_map, to_flat_map}
 use Rattle.affc_trace.proofs.Once.{in_flat_map}
+use Rattle.affc_domain.proofs.Lists.{in_if, to_if}
 use Rattle.affc_nest.specs.declared.nest.Access.{Access}
 use Rattle.affc_nest.specs.declared.nest.Entry.{Entry}
 use Rattle.affc_nest.specs.declared.nest.Nest.{Nest}
@@ -16,14 +17,6 @@ use Rattle.affc_quast.specs.Sources.{loads_in, tree_of}
 use Rattle.affc_quast.specs.Trees.{Tree}
 use Rattle.affc_life.specs.Clashes.{Clash, Walk, live_walk, rows_of_clashes, clash, clashes_of_store, numbered_loads, clashes_by, clashes_with, clashes_of_named, clashes_of_tree, clashes_of_entry, clashes_of, clashes}
 use Rattle.affc_life.proofs.ReadLemmas.{load_at, at_load}
-
-in_if : {A : Type 0} (t : Bool) (xs : List A) (a : A) → IsIn a (if t then xs else []) → IsTrue t × IsIn a xs
-in_if true xs a i = (refl, i)
-in_if false xs a i = absurd i
-
-to_if : {A : Type 0} (t : Bool) (xs : List A) (a : A) → IsTrue t → IsIn a xs → IsIn a (if t then xs else [])
-to_if true xs a t i = i
-to_if false xs a t i = absurd (cc)
 
 zero_first : (k : ℕ) → k ≡ 0 + k
 zero_first k = omega arith

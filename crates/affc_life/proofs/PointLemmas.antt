@@ -33,10 +33,9 @@ use Rattle.affc_sched.proofs.LegalLemmas.{Stood, instance_of, rows_wide, subs_wi
 use Rattle.affc_domain.proofs.Lists.{length_map}
 use Rattle.affc_sched.proofs.PointLemmas.{spread_met, met_spread, spread_values, all_spread}
 use Rattle.affc_quast.specs.Leaves.{padded, Leaf}
-use Rattle.affc_quast.proofs.LeafLemmas.{Narrow, LeafOver, longer_met, met_longer, met_padded, padded_met}
+use Rattle.affc_quast.proofs.LeafLemmas.{Narrow, LeafOver, longer_met, met_longer, met_padded, padded_met, narrow_columns, padded_values, padded_columns, short_values}
 use Rattle.affc_life.specs.Clashes.{live_walk, of_reader, of_writer, reader_posed, named_posed, writer_posed, front_rows, rows_of_clashes}
 use Rattle.affc_life.proofs.ApartLemmas.{MeetsOne, Between, between_says, says_between}
-use Rattle.affc_life.proofs.SeatLemmas.{narrow_columns, padded_values, padded_columns, short_values}
 
 module _ (program : Program) (has : HasNest program) (p bs qs cs : List ℤ) (l : length p ≡ length (number_ranges program.params)) (reader : Entry) (leaf : Leaf) (writer : Entry)
     (s : Stood program p reader bs) (t : Stood program p writer cs) (over : LeafOver (length p + length bs) leaf) (q_long : length ((p ++ bs) ++ qs) ≡ leaf.columns) where
@@ -100,7 +99,7 @@ module _ (program : Program) (has : HasNest program) (p bs qs cs : List ℤ) (l 
   named_is a names = record {
     part = refl;
     iterators = padded_values (leaf.columns + length writer.loops) a.iterators zs ∙ ap (values_of a.iterators) by_leaf
-        ∙ short_values a.iterators ((p ++ bs) ++ qs) cs (subst (λ k. HaveColumns k a.iterators) (sym q_long) (over.named a names));
+        ∙ short_values (length ((p ++ bs) ++ qs)) a.iterators ((p ++ bs) ++ qs) cs (omega arith) (subst (λ k. HaveColumns k a.iterators) (sym q_long) (over.named a names));
     columns = subst (λ k. HaveColumns k (map (padded (leaf.columns + length writer.loops)) a.iterators)) zs_long
         (padded_columns leaf.columns (leaf.columns + length writer.loops) a.iterators (grown leaf.columns (length writer.loops)) (over.named a names));
   }
@@ -113,7 +112,7 @@ module _ (program : Program) (has : HasNest program) (p bs qs cs : List ℤ) (l 
   pub x_value : (load : Access) → IsIn load reader.accesses → values_of (map (of_reader (nest_of program) reader leaf writer) load.subs) zs ≡ values_of load.subs (p ++ bs)
   x_value load i =
       padded_values (leaf.columns + length writer.loops) load.subs zs ∙ ap (values_of load.subs) by_path
-      ∙ short_values load.subs (p ++ bs) (qs ++ cs) (path_wide load.subs (subs_wide program has p l reader bs s load i))
+      ∙ short_values (length (p ++ bs)) load.subs (p ++ bs) (qs ++ cs) (omega arith) (path_wide load.subs (subs_wide program has p l reader bs s load i))
 
   x_wide : (load : Access) → IsIn load reader.accesses → HaveColumns (length zs) (map (of_reader (nest_of program) reader leaf writer) load.subs)
   x_wide load i =

@@ -5,11 +5,11 @@ use Rattle.affc_rows.specs.Forms.{Affine}
 use Rattle.affc_ast.specs.declared.tree.Rel.TheVariants.{Less, Greater, Equal}
 use Rattle.affc_nest.specs.Domains.{compare_rows}
 use Rattle.affc_products.specs.Blocks.{choices}
-use Rattle.affc_products.proofs.ProductLemmas.{choices_of_one}
+use Rattle.affc_products.proofs.ProductLemmas.{choices_of_one, flat_same}
 use Rattle.affc_life.specs.declared.draft.Draft.{Draft}
 use Rattle.affc_life.specs.Clashes.{apart_rows, differing}
 use Rattle.affc_life.specs.Drafts.{drafted, draft_by}
-use Rattle.affc_life.proofs.ChoiceLemmas.{flat_one, map_twice, flat_same, first_factor}
+use Rattle.affc_life.proofs.ChoiceLemmas.{flat_one, map_twice, first_factor}
 use Rattle.affc_life.proofs.SeatedLemmas.{clash_by}
 
 -- ---- Elements that differ

@@ -4,9 +4,8 @@ use Rattle.std.specs.Prelude.{slice_get}
 use Rattle.std.proofs.lemmas.Option.{same_Some, none-some, slice_get_within}
 use Rattle.affc_trace.specs.Law.{IsIn}
 use Rattle.affc_trace.proofs.Runs.{length_append}
-use Rattle.affc_domain.proofs.Lists.{from_append, to_mapped, length_map}
+use Rattle.affc_domain.proofs.Lists.{from_append, to_mapped, length_map, place_of, there_is}
 use Rattle.affc_nest.specs.declared.nest.Access.{Access}
-use Rattle.affc_nest.proofs.QuestionLemmas.{place_of, there_is}
 use Rattle.affc_life.specs.Clashes.{numbered_loads}
 
 -- ---- Numbered loads

@@ -19,6 +19,7 @@ use Rattle.affc_nest.specs.declared.nest.Entry.{Entry}
 use Rattle.affc_nest.specs.declared.nest.Nest.{Nest}
 use Rattle.affc_nest.proofs.QuestionProofs.{nest_few, nest_near, few_numbered}
 use Rattle.affc_trace.specs.declared.schedule.Schedule.{Schedule}
+use Rattle.affc_nest.proofs.IntervalLemmas.{near_reach}
 use Rattle.affc_order.specs.Placed.{IsPlaced}
 use Rattle.affc_order.specs.Posed.{Posed}
 use Rattle.affc_order.specs.Systems.{loops_or_none, rows_in, target_order}
@@ -32,7 +33,7 @@ use Rattle.affc_sched.proofs.WidthLemmas.{domain_wide}
 use Rattle.affc_quast.specs.Leaves.{padded, Leaf}
 use Rattle.affc_life.specs.Asked.{IsLiving, AreSeated, StandBeside}
 use Rattle.affc_life.specs.Clashes.{Clash, Walk, differing, clash_columns, of_reader, of_writer, front_rows, clash_ranges, reader_posed, named_posed, writer_posed, rows_of_clashes, clash, clashes_of_store}
-use Rattle.affc_life.proofs.BoxedLemmas.{all_reach, ranges_are, entry_reach}
+use Rattle.affc_life.proofs.BoxedLemmas.{ranges_are, entry_reach}
 use Rattle.affc_life.proofs.WalkLemmas.{between_is}
 use Rattle.affc_life.proofs.LightLemmas.{all_padded, all_spread}
 use Rattle.affc_life.proofs.SubscriptLemmas.{are_subscripts}
@@ -173,7 +174,7 @@ module _ (nest : Nest) (reader : Entry) (leaf : Leaf) (writer : Entry) (s : Stan
   -- ---- Ranges
 
   pub start_near : All WithinReach (nest.params ++ reader.ranges)
-  start_near = All-append WithinReach nest.params reader.ranges (all_reach nest.params (nest_near nest s.nested)) (its_ranges nest s.nested reader s.reads).1
+  start_near = All-append WithinReach nest.params reader.ranges (near_reach nest.params (nest_near nest s.nested)) (its_ranges nest s.nested reader s.reads).1
 
   pub start_long : length (nest.params ++ reader.ranges) ≡ length nest.params + length reader.loops
   start_long = length_append nest.params reader.ranges ∙ ap (λ k. length nest.params + k) (its_ranges nest s.nested reader s.reads).0

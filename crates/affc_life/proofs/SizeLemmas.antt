@@ -14,14 +14,13 @@ use Rattle.affc_trace.specs.declared.schedule.Schedule.TheVariants.{Source}
 use Rattle.affc_trace.specs.Law.{IsIn}
 use Rattle.affc_trace.specs.Target.{IsScheduleOf, within_limits}
 use Rattle.affc_trace.proofs.Runs.{length_append}
-use Rattle.affc_domain.proofs.Lists.{length_map}
+use Rattle.affc_domain.proofs.Lists.{length_map, stands_in}
 use Rattle.affc_nest.specs.Asked.{IsNest}
 use Rattle.affc_nest.specs.declared.nest.Access.{Access}
 use Rattle.affc_nest.specs.declared.nest.Entry.{Entry}
 use Rattle.affc_nest.specs.declared.nest.Nest.{Nest}
 use Rattle.affc_nest.specs.Laws.{HasNest, NamesArrays}
 use Rattle.affc_nest.specs.Nests.{nest_of}
-use Rattle.affc_nest.proofs.QuestionLemmas.{stands_in}
 use Rattle.affc_nest.proofs.QuestionProofs.{domain_small}
 use Rattle.affc_order.specs.Asked.{IsScheduled}
 use Rattle.affc_order.specs.Placed.{IsPlaced}

@@ -16,7 +16,7 @@ use Rattle.affc_domain.specs.Plain.{is_plain, all_plain}
 use Rattle.affc_domain.specs.Ranges.{number_ranges}
 use Rattle.affc_domain.specs.Rounds.{loops_in}
 use Rattle.affc_domain.proofs.FormLemmas.{form_width}
-use Rattle.affc_domain.proofs.Lists.{both_true, length_map}
+use Rattle.affc_domain.proofs.Lists.{both_true, length_map, place_of}
 use Rattle.affc_domain.proofs.PlainLemmas.{assignments_are_plain}
 use Rattle.affc_nest.specs.Asked.{IsNest}
 use Rattle.affc_nest.specs.declared.nest.Access.{Access}
@@ -28,7 +28,6 @@ use Rattle.affc_nest.specs.Touches.{AllPlain}
 use Rattle.affc_nest.specs.Wide.{IsWide}
 use Rattle.affc_nest.proofs.EntryLemmas.{site_of, loops_are}
 use Rattle.affc_nest.proofs.PlaceProofs.{plain_place}
-use Rattle.affc_nest.proofs.QuestionLemmas.{place_of}
 use Rattle.affc_nest.proofs.RowLemmas.{small_side}
 use Rattle.affc_nest.proofs.SmallLemmas.{constant_small}
 use Rattle.affc_nest.proofs.WidenLemmas.{plain_small}

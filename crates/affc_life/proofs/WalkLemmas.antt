@@ -13,6 +13,8 @@ use Rattle.affc_nest.specs.declared.nest.Access.{Access}
 use Rattle.affc_nest.specs.declared.nest.Entry.{Entry}
 use Rattle.affc_nest.specs.declared.nest.Nest.{Nest}
 use Rattle.affc_order.specs.Systems.{rows_in}
+use Rattle.affc_products.proofs.ProductLemmas.{flat_same}
+use Rattle.affc_products.proofs.Eaches.{each_right}
 use Rattle.affc_sched.specs.Touched.{Each}
 use Rattle.affc_quast.specs.Leaves.{leaves_of}
 use Rattle.affc_quast.specs.Sources.{loads_in, loads_before, tree_of}
@@ -20,7 +22,6 @@ use Rattle.affc_quast.specs.Trees.{Tree}
 use Rattle.affc_life.specs.Asked.{KeepLimits, AreLoads}
 use Rattle.affc_life.specs.Clashes.{Clash, Walk, between_rows, differing, numbered_loads, clashes_of_tree, clashes_of_entry}
 use Rattle.affc_life.specs.Drafts.{clashes_of_leaf, clashes_of_load}
-use Rattle.affc_life.proofs.ChoiceLemmas.{flat_same}
 
 -- nothing more
 pub none_more : {A : Type 0} (xs more : List A) → more ≡ [] → xs ≡ xs ++ more
@@ -36,15 +37,11 @@ front_of : {A : Type 0} (P : A → Type 0) (xs ys : List A) → Each P (xs ++ ys
 front_of P [] ys h = tt
 front_of P (x ∷ xs) ys h = (h.0, front_of P xs ys h.1)
 
-back_of : {A : Type 0} (P : A → Type 0) (xs ys : List A) → Each P (xs ++ ys) → Each P ys
-back_of P [] ys h = h
-back_of P (x ∷ xs) ys h = back_of P xs ys h.1
-
 pub each_front : {A : Type 0} (P : A → Type 0) (xs ys zs : List A) → zs ≡ xs ++ ys → Each P zs → Each P xs
 each_front P xs ys zs e h = front_of P xs ys (subst (Each P) e h)
 
 pub each_back : {A : Type 0} (P : A → Type 0) (xs ys zs : List A) → zs ≡ xs ++ ys → Each P zs → Each P ys
-each_back P xs ys zs e h = back_of P xs ys (subst (Each P) e h)
+each_back P xs ys zs e h = each_right P xs ys (subst (Each P) e h)
 
 -- ---- Orders
 

@@ -1,5 +1,5 @@
 -- The clash systems of small programs. Each row was found by hand from the rules.
-use Rattle.std.specs.Prelude.{◌≡◌, ℕ, ℤ, pos, negsuc, true, false, List, [], ◌∷◌, length}
+use Rattle.std.specs.Prelude.{◌≡◌, ℕ, zero, suc, ℤ, pos, negsuc, true, false, List, [], ◌∷◌, length, take}
 use Rattle.affc_rows.specs.Forms.{Affine}
 use Rattle.affc_system.specs.Systems.{Rows, HasNoPoint}
 use Rattle.affc_trace.specs.declared.schedule.Schedule.TheVariants.{Source}
@@ -12,7 +12,8 @@ use Rattle.affc_nest.specs.declared.nest.Nest.{Nest}
 use Rattle.affc_order.specs.Systems.{target_order}
 use Rattle.affc_quast.specs.Trees.{Tree, Test, Div}
 use Rattle.affc_quast.specs.Trees as tree
-use Rattle.affc_life.specs.Clashes.{Clash, Order, apart_rows, numbered_loads, clashes_of, clashes}
+use Rattle.affc_life.specs.Asked.{KeepsLimits}
+use Rattle.affc_life.specs.Clashes.{Clash, Order, apart_rows, between_rows, numbered_loads, clashes_of, clashes}
 
 abbrev pub form : List ℤ → ℤ → Affine
 form cs k = record { coefs = cs; constant = k }
@@ -170,7 +171,7 @@ constant_access array subscript = access array (form [] subscript ∷ [])
 abbrev straight : (statement : ℕ) → List Access → Entry
 straight statement accesses = record { part = statement; statement = statement; alive = true; loops = []; domain = over 0 []; ranges = []; accesses = accesses }
 
-abbrev in_turn : Nest
+abbrev pub in_turn : Nest
 in_turn = record {
   params = [];
   context = over 0 [];
@@ -212,6 +213,35 @@ AcrossArrays = walked 0 1 (target_order in_turn Source) ≡ walked_by (pos 1) (p
 abbrev pub AcrossOrders : Type 0
 AcrossOrders = walked 0 0 (λ n a b. target_order in_turn Source n b a) ≡ walked_by (pos 0) (pos 0) ∷ []
 
+-- ---- A[0] = ..; A[1] = A[0]; B[0] = A[0];
+
+abbrev twice_loaded : Nest
+twice_loaded = record in_turn {
+  entries = straight 0 (constant_access 0 (pos 0) ∷ [])
+      ∷ straight 1 (constant_access 0 (pos 0) ∷ constant_access 0 (pos 1) ∷ [])
+      ∷ straight 2 (constant_access 0 (pos 0) ∷ constant_access 1 (pos 0) ∷ [])
+      ∷ [];
+}
+
+-- A[0] lives from its store to its last load, so the store between its two loads is one beside it; for the instance that stores
+-- there, which loads it first, that store is none
+abbrev pub LivesToLastLoad : Type 0
+LivesToLastLoad = clashes twice_loaded (tree.Source 0 [] ∷ tree.Source 0 [] ∷ []) Source 0 ≡ turn (pos 0) (pos 1) (pos 0) ∷ turn (pos 0) (pos 1) (negsuc 1) ∷ []
+
+-- without the last load there is none
+abbrev pub OwnStoreAlone : Type 0
+OwnStoreAlone = clashes (record twice_loaded { entries = take 2 twice_loaded.entries }) (tree.Source 0 [] ∷ []) Source 0 ≡ []
+
+-- ---- How deep a tree may be
+
+abbrev pub deep : ℕ → Tree
+deep zero = tree.Input
+deep (suc n) = Test (form [] (pos 0)) (deep n) tree.Input
+
+-- 400 tests above a leaf are few enough, and one more is too many
+abbrev pub DepthsOfTrees : Type 0
+DepthsOfTrees = KeepsLimits in_turn 0 (deep 400) × (KeepsLimits in_turn 0 (deep 401) → ⊥)
+
 -- ---- Which elements differ, and which accesses load
 
 -- in two dimensions: the first differs, or it is equal and the second differs; a scalar has one element
@@ -224,6 +254,21 @@ DimensionsInTurn =
     ∷ (form (negsuc 1 ∷ []) (pos 0) ∷ form (pos 2 ∷ []) (pos 0) ∷ form [] (negsuc 2) ∷ [])
     ∷ [])
     × (apart_rows [] [] (form [] (pos 0) ∷ []) ≡ [])
+
+-- The rows of the order behind the named instance come first, then those of the order before the load, then those of the
+-- elements; and of the systems, those of the first order stand together.
+abbrev pub RowsInTurn : Type 0
+RowsInTurn =
+    between_rows true (form [] (pos 9) ∷ []) (over 0 (form [] (pos 1) ∷ []) ∷ over 0 (form [] (pos 2) ∷ []) ∷ []) (over 0 (form [] (pos 3) ∷ []) ∷ over 0 (form [] (pos 4) ∷ []) ∷ []) (form [] (pos 5) ∷ []) (form [] (pos 7) ∷ [])
+    ≡ (form [] (pos 9) ∷ form [] (pos 1) ∷ form [] (pos 3) ∷ form [] (pos 1) ∷ [])
+    ∷ (form [] (pos 9) ∷ form [] (pos 1) ∷ form [] (pos 3) ∷ form [] (negsuc 2) ∷ [])
+    ∷ (form [] (pos 9) ∷ form [] (pos 1) ∷ form [] (pos 4) ∷ form [] (pos 1) ∷ [])
+    ∷ (form [] (pos 9) ∷ form [] (pos 1) ∷ form [] (pos 4) ∷ form [] (negsuc 2) ∷ [])
+    ∷ (form [] (pos 9) ∷ form [] (pos 2) ∷ form [] (pos 3) ∷ form [] (pos 1) ∷ [])
+    ∷ (form [] (pos 9) ∷ form [] (pos 2) ∷ form [] (pos 3) ∷ form [] (negsuc 2) ∷ [])
+    ∷ (form [] (pos 9) ∷ form [] (pos 2) ∷ form [] (pos 4) ∷ form [] (pos 1) ∷ [])
+    ∷ (form [] (pos 9) ∷ form [] (pos 2) ∷ form [] (pos 4) ∷ form [] (negsuc 2) ∷ [])
+    ∷ []
 
 abbrev pub LastOneIsNoLoad : Type 0
 LastOneIsNoLoad = numbered_loads 0 (here ∷ next ∷ here ∷ []) ≡ (0, here) ∷ (1, next) ∷ []

@@ -7,3 +7,4 @@ pub mod Drafts
 pub mod Products
 pub mod Sought
 pub mod Folding
+pub mod Paths

@@ -1,5 +1,5 @@
 //! The clash systems of small programs, as laws: `specs/Examples.antt` says each, with rows that were found by hand.
-ghost use Rattle.affc_life.specs.Examples.{BlurHasTwelve, BlurHasSix, OthersHaveNone, MiddleClashes, ChainClashes, OwnStoreIsNone, HalvedClashes, BothOrders, NeverLoaded, AcrossArrays, AcrossOrders, DimensionsInTurn, LastOneIsNoLoad, NoneOfTheDead};
+ghost use Rattle.affc_life.specs.Examples.{BlurHasTwelve, BlurHasSix, OthersHaveNone, MiddleClashes, ChainClashes, OwnStoreIsNone, HalvedClashes, BothOrders, NeverLoaded, AcrossArrays, AcrossOrders, LivesToLastLoad, OwnStoreAlone, DepthsOfTrees, DimensionsInTurn, RowsInTurn, LastOneIsNoLoad, NoneOfTheDead};
 
 /// A blur of two statements, at the times i and i + 2, and in the order of the text.
 pub fn blur()
@@ -25,9 +25,21 @@ pub fn straight()
     ensures orders { AcrossOrders }
 {}
 
-/// Which elements differ, and which accesses load.
+/// How long an element lives: to its last load, which its instance's own store comes after.
+pub fn lifetimes()
+    ensures last_load { LivesToLastLoad }
+    ensures own_store { OwnStoreAlone }
+{}
+
+/// How deep a tree may be.
+pub fn depths()
+    ensures law { DepthsOfTrees }
+{}
+
+/// Which elements differ, in which order the rows of a clash stand, and which accesses load.
 pub fn parts()
     ensures dimensions { DimensionsInTurn }
+    ensures rows { RowsInTurn }
     ensures last { LastOneIsNoLoad }
     ensures dead { NoneOfTheDead }
 {}

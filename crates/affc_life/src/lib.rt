@@ -8,6 +8,7 @@ mod drafts;
 pub mod examples;
 pub mod fault;
 pub mod laws;
+pub mod path;
 pub mod product;
 mod products;
 mod ranges;

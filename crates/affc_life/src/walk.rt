@@ -1,5 +1,5 @@
 //! All clash systems of an array.
-ghost use Rattle.std.specs.Prelude.{◌≡◌, ◌+◌, ◌++◌, ◌<◌, Some, drop, length, map, flat_map, slice_get, IfOk, IfErr, OnOk};
+ghost use Rattle.std.specs.Prelude.{◌≡◌, ◌+◌, ◌++◌, ◌<◌, ◌≤◌, None, Some, drop, length, map, flat_map, slice_get, IfOk, IfErr, OnOk};
 ghost use Rattle.std.specs.List.{All};
 ghost use Rattle.affc_trace.specs.Law.{IsIn};
 ghost use Rattle.affc_nest.specs.Parts.{coordinates};
@@ -7,23 +7,28 @@ ghost use Rattle.affc_order.specs.Asked.{IsScheduled};
 ghost use Rattle.affc_order.specs.Placed.{IsPlaced};
 ghost use Rattle.affc_sched.specs.Touched.{Each};
 ghost use Rattle.affc_quast.specs.Leaves.{leaves_of};
+ghost use Rattle.affc_quast.specs.Limits.{Shaped, FitsTree, widest};
 ghost use Rattle.affc_quast.specs.Seen.{seen, trees_of};
 ghost use Rattle.affc_quast.specs.SeenLeaves.{leaf_seen};
 ghost use Rattle.affc_quast.specs.Sources.{loads_in, loads_before};
+ghost use Rattle.affc_quast.specs.Trees.{divisions_of};
 ghost use Rattle.affc_life.specs.Asked.{KeepLimits, KeepsLimits, IsLiving, IsPath, AreLoads};
 ghost use Rattle.affc_life.specs.Clashes.{clash_of, clashes_with, clashes_of_entry, numbered_loads, clashes_of, clashes};
 ghost use Rattle.affc_life.specs.Drafts.{drafted, IsPaired, AreScheduled, walk_of, instance_named, clashes_of_leaf, clashes_of_load};
+ghost use Rattle.affc_life.specs.Paths.{with_named, leaves_under};
 ghost use Rattle.affc_life.specs.Products.{systems_in};
 ghost use Rattle.affc_life.specs.Sizes.{AnyLarge};
 
 use crate::clash::ClashProduct;
 use crate::draft::{Draft, Walking};
 use crate::fault::ClashFault;
+use crate::path::{add_copy, add_row, divide, drop_row, root, undivide};
 use crate::products::products_of;
 use crate::stores::{add_store, coordinates, params_in};
 use affc_ast::tree::ArrayId;
+use affc_nest::lists::copied;
 use affc_nest::{Access, Entry, Nest};
-use affc_quast::leaves::{Leaf, Named, leaves};
+use affc_quast::leaves::{Leaf, Named, negated};
 use affc_quast::{Flow, Quast};
 use affc_system::PairSystem;
 use affc_trace::schedule::Schedule;
@@ -112,29 +117,74 @@ fn add_leaf(
     }
 }
 
-/// Adds the systems of a load and these leaves. The recursion is into halves, since there may be many.
-fn add_leaves(
+/// Adds the systems of a load and the leaf at the end of a path, which comes back as it was.
+fn add_end(
     alloc: Global,
     asked: &Walking<'_>,
     reader: &Entry,
     load: &Access,
-    leaves: &[Leaf],
+    named: Option<Named>,
+    path: &mut Leaf,
     out: &mut Vec<Draft>,
 ) -> Result<(), AllocError>
     requires scheduled { AreScheduled asked.now }
     requires reads { IsLiving asked.now.nest.now reader.now }
     requires load { IsIn load.now reader.now.accesses }
-    requires paths { Each (IsPath asked.now.nest.now (length asked.now.nest.now.params + coordinates reader.now)) (map leaf_seen leaves.now) }
-    ensures { OnOk result (flat_map drafted out.new.items ≡ flat_map drafted out.old.items ++ flat_map (clashes_of_leaf asked.now.nest.now (walk_of asked.now) reader.now load.now) (map leaf_seen leaves.now)) }
+    requires open { path.old.named ≡ None }
+    requires path { IsPath asked.now.nest.now (length asked.now.nest.now.params + coordinates reader.now) (leaf_seen (with_named path.old named)) }
+    ensures kept { OnOk result (path.new ≡ path.old) }
+    ensures made { OnOk result (flat_map drafted out.new.items ≡ flat_map drafted out.old.items ++ clashes_of_leaf asked.now.nest.now (walk_of asked.now) reader.now load.now (leaf_seen (with_named path.old named))) }
 {
-    match leaves {
-        [] => Ok(()),
-        [leaf] => { add_leaf(alloc, asked, reader, load, leaf, out) }
-        _ => {
-            let (first, others) = leaves.split_at(leaves.len() / 2);
-            add_leaves(alloc, asked, reader, load, first, out)?;
-            add_leaves(alloc, asked, reader, load, others, out)
+    path.named = named;
+    add_leaf(alloc, asked, reader, load, path, out)?;
+    path.named = None;
+    Ok(())
+}
+
+/// Adds the systems of a load and the leaves of a tree at the end of a path, which comes back as it was.
+fn add_under(
+    alloc: Global,
+    asked: &Walking<'_>,
+    reader: &Entry,
+    load: &Access,
+    tree: &Quast,
+    path: &mut Leaf,
+    out: &mut Vec<Draft>,
+) -> Result<(), AllocError>
+    requires scheduled { AreScheduled asked.now }
+    requires reads { IsLiving asked.now.nest.now reader.now }
+    requires load { IsIn load.now reader.now.accesses }
+    requires open { path.old.named ≡ None }
+    requires shaped { Shaped path.old.columns (seen tree.now) }
+    requires fits { FitsTree widest (seen tree.now) }
+    requires room { path.old.columns + divisions_of (seen tree.now) ≤ 1000 }
+    requires paths { Each (IsPath asked.now.nest.now (length asked.now.nest.now.params + coordinates reader.now)) (leaves_under path.old (seen tree.now)) }
+    ensures kept { OnOk result (path.new ≡ path.old) }
+    ensures made { OnOk result (flat_map drafted out.new.items ≡ flat_map drafted out.old.items ++ flat_map (clashes_of_leaf asked.now.nest.now (walk_of asked.now) reader.now load.now) (leaves_under path.old (seen tree.now))) }
+{
+    match tree {
+        Quast::Test { form, yes, no } => {
+            let off = negated(alloc, path.columns, form)?;
+            add_copy(path, form)?;
+            add_under(alloc, asked, reader, load, yes, path, out)?;
+            drop_row(path);
+            add_row(path, off)?;
+            add_under(alloc, asked, reader, load, no, path, out)?;
+            drop_row(path);
+            Ok(())
         }
+        Quast::Div { form, by, rest } => {
+            divide(alloc, path, form, *by)?;
+            add_under(alloc, asked, reader, load, rest, path, out)?;
+            undivide(path);
+            Ok(())
+        }
+        Quast::Source { part, forms } => {
+            let forms = copied(alloc, forms.as_slice())?;
+            let named = Named { part: *part, forms };
+            add_end(alloc, asked, reader, load, Some(named), path, out)
+        }
+        Quast::Input => add_end(alloc, asked, reader, load, None, path, out),
     }
 }
 
@@ -154,8 +204,8 @@ fn add_tree(
     ensures { OnOk result (flat_map drafted out.new.items ≡ flat_map drafted out.old.items ++ flat_map (clashes_of_leaf asked.now.nest.now (walk_of asked.now) reader.now load.now) (leaves_of (length asked.now.nest.now.params + coordinates reader.now) (seen tree.now))) }
 {
     let columns = params_in(asked.nest) + coordinates(reader);
-    let leaves = leaves(alloc, columns, tree)?;
-    add_leaves(alloc, asked, reader, load, leaves.as_slice(), out)
+    let mut path = root(alloc, columns);
+    add_under(alloc, asked, reader, load, tree, &mut path, out)
 }
 
 /// Adds the systems of a load with this number.

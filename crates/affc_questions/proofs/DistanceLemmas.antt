@@ -23,6 +23,7 @@ use Rattle.affc_nest.proofs.QuestionProofs.{nest_near}
 use Rattle.affc_order.specs.Placed.{AreImages}
 use Rattle.affc_order.specs.Posed.{form_at}
 use Rattle.affc_conflicts.specs.Questions.{differences, distance, agree_rows, over_columns}
+use Rattle.affc_conflicts.proofs.Distances.{length-differences}
 use Rattle.affc_questions.specs.Asked.{AreElements, IsAlong, IsModulusOver}
 use Rattle.affc_nest.specs.Wide.{IsWide}
 use Rattle.affc_questions.specs.Sizes.{IsMild}
@@ -41,26 +42,18 @@ differences_within n (x ∷ xs) (y ∷ ys) h g =
     All-cons (IsWithin n (2 ^ 25) (2 ^ 25)) (mixed_form (pos 1) x (negsuc 0) y) (differences xs ys) (subscripts_within n x y (All-head (IsSubscript n) x xs h) (All-head (IsSubscript n) y ys g))
     (differences_within n xs ys (All-tail (IsSubscript n) x xs h) (All-tail (IsSubscript n) y ys g))
 
-pub differences_long : (xs ys : List Affine) → length ys ≡ length xs → length (differences xs ys) ≡ length xs
-differences_long [] ys e = refl
-differences_long (x ∷ xs) [] e = absurd (omega (arith, e))
-differences_long (x ∷ xs) (y ∷ ys) e = ap suc (differences_long xs ys (less (length ys) (length xs) e))
-  where
-    less : (a b : ℕ) → suc a ≡ suc b → a ≡ b
-    less a b e = omega (arith, e)
-
 -- ---- Distances
 
 module _ (columns : ℕ) (row : Affine) (xs ys : List Affine) (a : AreElements columns row xs ys) where
   pub its_images : AreImages columns (differences xs ys)
-  its_images = record { few = less (length (differences xs ys)) (length xs) (differences_long xs ys a.each) a.few; rows = rows_of columns (2 ^ 25) (2 ^ 25) (differences xs ys) (omega arith) (omega arith) (differences_within columns xs ys a.first a.second) }
+  its_images = record { few = less (length (differences xs ys)) (length xs) (length-differences xs ys a.each) a.few; rows = rows_of columns (2 ^ 25) (2 ^ 25) (differences xs ys) (omega arith) (omega arith) (differences_within columns xs ys a.first a.second) }
     where
       less : (d n : ℕ) → d ≡ n → n ≤ 4 → d ≤ 10
       less d n e h = omega (arith, e, h)
 
   pub its_row : IsRow (length (differences xs ys)) (plain row)
   its_row = record {
-    width = a.width ∙ sym (differences_long xs ys a.each);
+    width = a.width ∙ sym (length-differences xs ys a.each);
     fits = record { coefs_fit = All-weaker (λ c. unsigned_abs c ≤ 256) (λ c. unsigned_abs c ≤ 2 ^ 40) (λ c h. more (unsigned_abs c) h) row.coefs a.small; constant_fits = omega arith };
   }
     where

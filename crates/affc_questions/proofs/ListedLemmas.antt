@@ -1,7 +1,8 @@
 -- The questions that the code lists are those of the leaf.
 use Rattle.std.proofs.Common.{◌≡◌, ℕ, zero, suc, ℤ, Bool, true, false, if◌then◌else◌, IsTrue, List, [], ◌∷◌, ◌++◌, map, flat_map, Option, Some, None, refl, sym, ap, ap₂, subst, ◌∙◌, inl, inr}
-use Rattle.std.specs.Prelude.{nat_eq, slice_get, IfSome}
+use Rattle.std.specs.Prelude.{nat_eq, IfSome}
 use Rattle.std.proofs.lemmas.Option.{same_Some}
+use Rattle.std.proofs.lemmas.List.Concat.{flat_map-append}
 use Rattle.affc_rows.specs.Forms.{Affine}
 use Rattle.affc_system.specs.Systems.{Rows}
 use Rattle.affc_ast.specs.declared.tree.Rel.TheVariants.{Less, Greater}
@@ -9,6 +10,7 @@ use Rattle.affc_trace.specs.Law.{IsIn}
 use Rattle.affc_trace.proofs.EndedReads.{append_assoc}
 use Rattle.affc_trace.proofs.LastStores.{map_append, append_nil}
 use Rattle.affc_trace.proofs.Once.{in_append}
+use Rattle.affc_domain.proofs.Lists.{stands_in}
 use Rattle.affc_nest.specs.Domains.{compare_rows}
 use Rattle.affc_nest.specs.declared.nest.Access.{Access}
 use Rattle.affc_nest.specs.declared.nest.Entry.{Entry}
@@ -36,15 +38,11 @@ map_flat : {A B C : Type 0} (f : B → C) (g : A → List B) (h : A → List C) 
 map_flat f g h e [] = refl
 map_flat f g h e (x ∷ xs) = map_append f (g x) (flat_map g xs) ∙ ap (λ ys. ys ++ map f (flat_map g xs)) (e x) ∙ ap (λ ys. h x ++ ys) (map_flat f g h e xs)
 
-pub flat_append : {A B : Type 0} (f : A → List B) (xs ys : List A) → flat_map f (xs ++ ys) ≡ flat_map f xs ++ flat_map f ys
-flat_append f [] ys = refl
-flat_append f (x ∷ xs) ys = ap (λ zs. f x ++ zs) (flat_append f xs ys) ∙ sym (append_assoc (f x) (flat_map f xs) (flat_map f ys))
-
 -- ---- Groups
 
 -- the questions of one group more
 pub asked_more : (old new : List Ranged) (r : Ranged) → new ≡ old ++ r ∷ [] → flat_map asked new ≡ flat_map asked old ++ asked r
-asked_more old new r e = ap (flat_map asked) e ∙ flat_append asked old (r ∷ []) ∙ ap (λ zs. flat_map asked old ++ zs) (append_nil (asked r))
+asked_more old new r e = ap (flat_map asked) e ∙ flat_map-append asked old (r ∷ []) ∙ ap (λ zs. flat_map asked old ++ zs) (append_nil (asked r))
 
 -- where these are the choices of its factors
 pub asked_as : (columns : ℕ) (front : List Affine) (ranges : List (ℤ × ℤ)) (factors : List (List (List Affine))) (lists : List (List Affine)) → choices factors ≡ lists
@@ -89,22 +87,17 @@ first_is_in a (w ∷ ws) v e = chosen (poses a w.0) refl (λ q. first_is_in a ws
 -- among entries in two lists
 pub found_first : (a : Posed) (array : ℕ) (entries front back : List Entry) (v : Writer) → entries ≡ front ++ back → first_posed a (flat_map (writers_of array) front) ≡ Some v → first_posed a (flat_map (writers_of array) entries) ≡ Some v
 found_first a array entries front back v e h =
-    ap (λ es. first_posed a (flat_map (writers_of array) es)) e ∙ (ap (first_posed a) (flat_append (writers_of array) front back) ∙ first_stays a (flat_map (writers_of array) front) (flat_map (writers_of array) back) v h)
+    ap (λ es. first_posed a (flat_map (writers_of array) es)) e ∙ (ap (first_posed a) (flat_map-append (writers_of array) front back) ∙ first_stays a (flat_map (writers_of array) front) (flat_map (writers_of array) back) v h)
 
 pub found_later : (a : Posed) (array : ℕ) (entries front back : List Entry) → entries ≡ front ++ back → first_posed a (flat_map (writers_of array) front) ≡ None → first_posed a (flat_map (writers_of array) entries) ≡ first_posed a (flat_map (writers_of array) back)
 found_later a array entries front back e h =
-    ap (λ es. first_posed a (flat_map (writers_of array) es)) e ∙ (ap (first_posed a) (flat_append (writers_of array) front back) ∙ first_append a (flat_map (writers_of array) front) (flat_map (writers_of array) back) h)
+    ap (λ es. first_posed a (flat_map (writers_of array) es)) e ∙ (ap (first_posed a) (flat_map-append (writers_of array) front back) ∙ first_append a (flat_map (writers_of array) front) (flat_map (writers_of array) back) h)
 
 pub if_some : {T : Type 0} (o : Option T) (P Q : T → Type 0) → ((x : T) → P x → Q x) → IfSome o P → IfSome o Q
 if_some None P Q f h = tt
 if_some (Some x) P Q f h = f x h
 
 -- ---- Statements that store the array
-
-pub in_list : {A : Type 0} (xs : List A) (n : ℕ) (x : A) → slice_get xs n ≡ Some x → IsIn x xs
-in_list [] n x e = absurd (cc)
-in_list (y ∷ ys) zero x e = inl (sym (same_Some y x e))
-in_list (y ∷ ys) (suc n) x e = inr (in_list ys n x e)
 
 -- a part that can have instances and its store
 pub record Stores (e : Entry) (v : Writer) : Type 0 where
@@ -120,7 +113,7 @@ stores_of array e v i = living e.alive refl i
     own l (Some y) s i = kept (nat_eq y.array.0 array) i
       where
         kept : (t : Bool) → IsIn v (if t then (e, y) ∷ [] else []) → Stores e v
-        kept true (inl q) = record { is = ap (λ (u : Writer). u.0) q; alive = l; among = subst (λ z. IsIn z e.accesses) (sym (ap (λ (u : Writer). u.1) q)) (in_list e.accesses _ y s) }
+        kept true (inl q) = record { is = ap (λ (u : Writer). u.0) q; alive = l; among = subst (λ z. IsIn z e.accesses) (sym (ap (λ (u : Writer). u.1) q)) (stands_in e.accesses _ y s) }
         kept true (inr b) = absurd b
         kept false b = absurd b
 

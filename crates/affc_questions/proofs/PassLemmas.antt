@@ -1,5 +1,5 @@
 -- Questions of trees that the search gives keep the limits of a system.
-use Rattle.std.proofs.Common.{◌≡◌, ℕ, suc, ◌+◌, ◌-◌, ◌*◌, ◌^◌, ◌<◌, ◌≤◌, ℤ, Bool, true, false, IsTrue, if◌then◌else◌, List, [], ◌∷◌, ◌++◌, length, map, flat_map, drop, Option, Some, None, refl, sym, ap, subst, inl, inr, arith}
+use Rattle.std.proofs.Common.{◌≡◌, ℕ, suc, ◌+◌, ◌-◌, ◌*◌, ◌^◌, ◌<◌, ◌≤◌, ℤ, Bool, true, false, if◌then◌else◌, List, [], ◌∷◌, ◌++◌, length, map, flat_map, drop, Option, Some, None, refl, sym, ap, subst, inl, inr, arith}
 use Rattle.std.specs.Prelude.{slice_get, nat_eq}
 use Rattle.std.specs.List.{All}
 use Rattle.std.proofs.lemmas.List.{length-drop}
@@ -18,7 +18,7 @@ use Rattle.affc_trace.specs.Law.{IsIn}
 use Rattle.affc_trace.proofs.Members.{in_map}
 use Rattle.affc_trace.proofs.Once.{in_append, in_flat_map}
 use Rattle.affc_trace.proofs.Runs.{length_append}
-use Rattle.affc_domain.proofs.Lists.{length_map}
+use Rattle.affc_domain.proofs.Lists.{length_map, stands_in, in_all, in_if}
 use Rattle.affc_nest.specs.Asked.{IsNest}
 use Rattle.affc_nest.specs.declared.nest.Access.{Access}
 use Rattle.affc_nest.specs.declared.nest.Entry.{Entry}
@@ -27,7 +27,6 @@ use Rattle.affc_nest.specs.Parts.{statement_of}
 use Rattle.affc_nest.specs.Domains.{gap_row, compare_rows}
 use Rattle.affc_nest.specs.Laws.{HasNest, NamesArrays}
 use Rattle.affc_nest.specs.Nests.{nest_of}
-use Rattle.affc_nest.proofs.QuestionLemmas.{stands_in}
 use Rattle.affc_nest.proofs.QuestionProofs.{domain_small, few_numbered}
 use Rattle.affc_order.specs.Placed.{IsPlaced}
 use Rattle.affc_order.specs.Posed.{Posed, form_at}
@@ -41,6 +40,7 @@ use Rattle.affc_quast.specs.Leaves.{Leaf, padded, negated, leaves_of}
 use Rattle.affc_quast.specs.Limits.{FitsForm, narrow}
 use Rattle.affc_quast.specs.Sources.{loads_in, tree_of}
 use Rattle.affc_quast.specs.Trees.{Tree, depth_of, divisions_of}
+use Rattle.affc_sched.proofs.PairLemmas.{equal_count}
 use Rattle.affc_life.specs.Asked.{KeepLimits, IsLiving, IsPath, StandBeside}
 use Rattle.affc_life.proofs.CountLemmas.{order_count}
 use Rattle.affc_life.proofs.DomainLemmas.{domain_fits}
@@ -63,17 +63,6 @@ use Rattle.affc_questions.proofs.LeafLemmas.{seated, of_path, params_few, loops_
 use Rattle.affc_questions.proofs.PosedLemmas.{IsSituated, placed, all_placed, negated_row, less_row, greater_row}
 use Rattle.affc_questions.proofs.SizeLemmas.{gap_row_fits}
 use Rattle.affc_questions.proofs.TightLemmas.{IsTight, domain_tight}
-
--- ---- Lists
-
-at_in : {A : Type 0} (P : A → Type 0) (xs : List A) (x : A) → All P xs → IsIn x xs → P x
-at_in P [] x h i = absurd i
-at_in P (y ∷ ys) x h (inl e) = subst P (sym e) (All-head P y ys h)
-at_in P (y ∷ ys) x h (inr i) = at_in P ys x (All-tail P y ys h) i
-
-in_if : {A : Type 0} (t : Bool) (xs : List A) (a : A) → IsIn a (if t then xs else []) → IsTrue t × IsIn a xs
-in_if true xs a i = (refl, i)
-in_if false xs a i = absurd i
 
 -- ---- Rows over more columns
 
@@ -124,14 +113,6 @@ equals_fit n [] gs h k = All-nil (IsRow n)
 equals_fit n (f ∷ fs) [] h k = All-nil (IsRow n)
 equals_fit n (f ∷ fs) (g ∷ gs) h k =
     All-append (IsRow n) (compare_rows Equal f g) (equal_rows fs gs) (equal_fit n f g (All-head (IsMild n) f fs h) (All-head (IsMild n) g gs k)) (equals_fit n fs gs (All-tail (IsMild n) f fs h) (All-tail (IsMild n) g gs k))
-
-equals_few : (fs gs : List Affine) → length (equal_rows fs gs) ≤ 2 * length fs
-equals_few [] gs = omega arith
-equals_few (f ∷ fs) [] = omega arith
-equals_few (f ∷ fs) (g ∷ gs) = sum (length (equal_rows (f ∷ fs) (g ∷ gs))) (length (equal_rows fs gs)) (length fs) (length_append (compare_rows Equal f g) (equal_rows fs gs)) (equals_few fs gs)
-  where
-    sum : (n r l : ℕ) → n ≡ 2 + r → r ≤ 2 * l → n ≤ 2 * suc l
-    sum n r l e h = omega (arith, e, h)
 
 -- ---- Orders
 
@@ -272,7 +253,7 @@ module _ (program : Program) (has : HasNest program) (named : NamesArrays progra
 
     equal_few : length (equal_rows read written) ≤ 8
     equal_few =
-        sum (length (equal_rows read written)) (length read) (length load.subs) (equals_few read written) (length_map (padded wide) load.subs) (few_subscripts program has named reader is.reads.there load is.loads)
+        sum (length (equal_rows read written)) (length read) (length load.subs) (equal_count read written) (length_map (padded wide) load.subs) (few_subscripts program has named reader is.reads.there load is.loads)
       where
         sum : (k m a : ℕ) → k ≤ 2 * m → m ≡ a → a ≤ 4 → k ≤ 8
         sum k m a e h g = omega (arith, e, h, g)
@@ -363,7 +344,7 @@ module _ (program : Program) (has : HasNest program) (named : NamesArrays progra
       outside_within : (q : Question) → IsIn q (outside_questions nest reader load ranges leaf a w z) → IsWithin q.system
       outside_within q i =
           let r = in_map (λ r. here nest reader load ranges leaf (negated (at_named r) ∷ [])) w.domain.rows q i in
-          let tight : IsTight r.0 = at_in IsTight w.domain.rows r.0 (domain_tight program has w.part w (entry_at program has w writes.writes.there) writes.writes.alive) r.1 in
+          let tight : IsTight r.0 = in_all IsTight w.domain.rows r.0 (domain_tight program has w.part w (entry_at program has w writes.writes.there) writes.writes.alive) r.1 in
           subst (λ (p : Question). IsWithin p.system) (sym r.2)
           (one_row (negated (at_named r.0)) (negated_row leaf.columns (at_named r.0) (placed leaf.columns (length nest.params) a.iterators (params_few nest reader load leaf is) six small_forms long r.0 tight)))
 
@@ -408,7 +389,7 @@ module _ (program : Program) (has : HasNest program) (named : NamesArrays progra
           same (inl e) =
               subst (λ (p : Question). IsWithin p.system) (sym e)
               (here_within (equal_rows own_at.iterators a.iterators)
-              (twice (length (equal_rows own_at.iterators a.iterators)) (length own_at.iterators) (length reader.loops) (equals_few own_at.iterators a.iterators) (from_long leaf.columns (length nest.params) (length reader.loops)) (loops_few nest reader load leaf is))
+              (twice (length (equal_rows own_at.iterators a.iterators)) (length own_at.iterators) (length reader.loops) (equal_count own_at.iterators a.iterators) (from_long leaf.columns (length nest.params) (length reader.loops)) (loops_few nest reader load leaf is))
               (equals_fit leaf.columns own_at.iterators a.iterators (columns_mild leaf.columns (length nest.params) (length reader.loops)) mild))
           same (inr x) = absurd x
 

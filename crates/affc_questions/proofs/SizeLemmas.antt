@@ -57,9 +57,6 @@ modulus_fits n b m = (mild_row n b (modulus_mild n b m)).fits
 over_within : (n : ℕ) (b : Affine) → IsModulusOver n b → IsWithin n (2 ^ 30) (2 ^ 55) (over_columns n b)
 over_within n b m = padded_within (length b.coefs) n (2 ^ 30) (2 ^ 55) b m.parameters m.fits
 
-pub over_mild : (n : ℕ) (b : Affine) → IsModulusOver n b → IsMild n (over_columns n b)
-over_mild n b m = within_raised n (2 ^ 30) (2 ^ 55) (2 ^ 38) (2 ^ 58) (over_columns n b) (omega arith) (omega arith) (over_within n b m)
-
 -- at a point of machine integers
 pub value_wide : (n : ℕ) (b : Affine) (p : List ℤ) → n ≤ 128 → IsModulus n b → Below (2 ^ 63) p → IsWide n (number_form n (value b p))
 value_wide n b p few m h =

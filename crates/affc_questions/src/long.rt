@@ -7,7 +7,7 @@ ghost use Rattle.affc_products.specs.Parts.{IsWithin};
 use affc_nest::questions::add_rows;
 use affc_rows::Form;
 use affc_system::system::{MOST_COLUMNS, MOST_ROWS, value_at};
-use affc_system::{System, fits_row};
+use affc_system::{System, are_rows};
 use sqlite_items::Items;
 use std::alloc::{AllocError, Global};
 use std::marker::Model;
@@ -25,27 +25,6 @@ impl Model for Long {
     ghost Value = { Rows };
 
     ghost view = { λ l. record { columns = l.columns; rows = l.rows } };
-}
-
-/// Whether a row is over so many columns and within the limits of a row.
-fn is_row(columns: u32, row: &Form) -> bool
-    ensures { IsTrue result ↔ IsRow columns row.now }
-{
-    row.coefs.len() == columns as usize && fits_row(row)
-}
-
-/// Whether each row is. The recursion is into halves, since there may be many.
-fn are_rows(columns: u32, rows: &[Form]) -> bool
-    ensures { IsTrue result ↔ All (IsRow columns) rows.now }
-{
-    match rows {
-        [] => true,
-        [row] => is_row(columns, row),
-        _ => {
-            let (first, others) = rows.split_at(rows.len() / 2);
-            are_rows(columns, first) && are_rows(columns, others)
-        }
-    }
 }
 
 /// Whether each row is at least 0 at the point.

@@ -16,14 +16,15 @@ use Rattle.affc_trace.specs.declared.schedule.Schedule.{Schedule}
 use Rattle.affc_trace.specs.Law.{IsIn}
 use Rattle.affc_basis.specs.Bases.{AreWithin}
 use Rattle.affc_basis.specs.Moduli.{IsModulus}
+use Rattle.affc_domain.proofs.Lists.{place_of, in_all}
 use Rattle.affc_nest.specs.Domains.{gap_row, compare_rows, number_form, with_rows}
 use Rattle.affc_nest.specs.declared.nest.Nest.{Nest}
 use Rattle.affc_nest.specs.Laws.{HasNest, NamesArrays}
 use Rattle.affc_nest.specs.Nests.{nest_of, nowhere}
 use Rattle.affc_nest.specs.Questions.{with_row, whole_context}
-use Rattle.affc_sched.specs.Touched.{Each}
 use Rattle.affc_sched.specs.Legality.{IsAsked}
 use Rattle.affc_quast.specs.Trees.{Tree}
+use Rattle.affc_sched.proofs.Lists.{each_from}
 use Rattle.affc_conflicts.specs.Laws.{IsOver}
 use Rattle.affc_conflicts.specs.Questions.{distance, over_columns, positive_question, greater_question, distance_question, distance_questions}
 use Rattle.affc_life.specs.Asked.{KeepLimits}
@@ -47,11 +48,6 @@ use Rattle.affc_check.proofs.list.PartLemmas.{passes_front, passes_behind, liste
 
 -- ---- The elements of a clash system along a row
 
-all_at : {A : Type 0} (P : A → Type 0) (xs : List A) (x : A) → All P xs → IsIn x xs → P x
-all_at P [] x h i = absurd i
-all_at P (y ∷ ys) x h (inl e) = subst P (sym e) (All-head P y ys h)
-all_at P (y ∷ ys) x h (inr i) = all_at P ys x (All-tail P y ys h) i
-
 one_there : {A : Type 0} (xs : List A) (x : A) → IsIn x xs → 1 ≤ length xs
 one_there [] x i = absurd i
 one_there (y ∷ ys) x i = omega arith
@@ -61,25 +57,16 @@ elements_along rows row b s h = record {
   some = subst (λ n. 1 ≤ n) (sym h.first) (one_there rows row h.there);
   few = subst (λ n. n ≤ 4) (sym h.first) h.basis.few;
   each = h.second ∙ sym h.first;
-  width = all_at (λ (r : Affine). length r.coefs ≡ length rows) rows row h.basis.square h.there ∙ sym h.first;
-  small = all_at (λ (r : Affine). AreWithin 256 r.coefs) rows row h.basis.small h.there;
+  width = in_all (λ (r : Affine). length r.coefs ≡ length rows) rows row h.basis.square h.there ∙ sym h.first;
+  small = in_all (λ (r : Affine). AreWithin 256 r.coefs) rows row h.basis.small h.there;
   first = s.x_fits;
   second = s.y_fits;
 }
 
 -- ---- Rows with their moduli
 
-held_at : {A : Type 0} (xs : List A) (x : A) → IsIn x xs → (i : ℕ) × (slice_get xs i ≡ Some x)
-held_at [] x i = absurd i
-held_at (y ∷ ys) x (inl e) = (0, ap Some (sym e))
-held_at (y ∷ ys) x (inr i) = let r = held_at ys x i in (suc r.0, r.1)
-
 is_held : {A : Type 0} (xs : List A) (i : ℕ) (x : A) → slice_get xs i ≡ Some x → Contains xs x
 is_held xs i x e = (i, slice_get_within xs i x e, get_or_from_slice_get xs i x x e)
-
-each_of : {A : Type 0} (P : A → Type 0) (xs : List A) → ((x : A) → IsIn x xs → P x) → Each P xs
-each_of P [] h = tt
-each_of P (x ∷ xs) h = (h x (inl refl), each_of P xs (λ y i. h y (inr i)))
 
 module _ (nest : Nest) (c : CertFold) (systems : List PairSystem) (over : (s : PairSystem) → IsIn s systems → IsOver nest.context.columns (length c.basis.rows) s) where
   along : (row : Affine) (m : CertModulus) → IsIn row c.basis.rows → IsModulus nest.context.columns m.form → (s : PairSystem) → IsIn s systems → IsAlong c.basis.rows row m.form s
@@ -100,7 +87,7 @@ module _ (nest : Nest) (c : CertFold) (systems : List PairSystem) (over : (s : P
   rows_along (row ∷ more) [] there fits marks = tt
   rows_along (row ∷ more) (m ∷ ms) there fits marks =
       let fit = All-head (λ (m : CertModulus). IsModulus nest.context.columns m.form) m ms fits in (
-        each_of (IsAlong c.basis.rows row m.form) systems (along row m (there row (inl refl)) fit),
+        each_from (IsAlong c.basis.rows row m.form) systems (along row m (there row (inl refl)) fit),
         fit,
         All-head (λ (m : CertModulus). IsMarkWithin nest.context.columns m.least) m ms marks,
         rows_along more ms (λ r i. there r (inr i)) (All-tail (λ (m : CertModulus). IsModulus nest.context.columns m.form) m ms fits)
@@ -116,7 +103,7 @@ of_program program schedule trees c systems has named h are =
     let info = h.of_array.info in
     rows_along (nest_of program) c systems
     (λ s i.
-    let at = held_at systems s i in
+    let at = place_of systems s i in
     subst (λ n. IsOver (nest_of program).context.columns n s) (sym h.of_array.dimensions)
     (are_over program has named trees (shaped_of (nest_of program) trees h.limits) schedule c.array.0 info h.of_array.declared systems are s (is_held systems at.0 s at.1)))
     c.basis.rows c.moduli (λ r i. i) h.of_array.moduli h.within.marks

@@ -3,6 +3,7 @@ use Rattle.std.proofs.Common.{◌≡◌, ℕ, ◌+◌, List, [], ◌∷◌, ◌+
 use Rattle.std.specs.List.{All}
 use Rattle.std.proofs.lemmas.List.Elements.{All-head, All-tail}
 use Rattle.std.proofs.lemmas.List.{map-append}
+use Rattle.std.proofs.lemmas.List.Concat.{flat_map-append}
 use Rattle.affc_trace.proofs.LastStores.{append_nil}
 use Rattle.affc_system.specs.Systems.{Rows}
 use Rattle.affc_trace.specs.Law.{IsIn}
@@ -14,12 +15,11 @@ use Rattle.affc_check.specs.list.Items.{Item, Question, Shown}
 use Rattle.affc_check.specs.list.Limits.{AnyPasses}
 use Rattle.affc_check.specs.list.Listed.{AreListed, PartsListed, IsFirstPart}
 use Rattle.affc_check.proofs.list.PartLemmas.{part_listed, part_here, part_later}
-use Rattle.affc_check.proofs.list.TreeLemmas.{flat_both}
 
 -- ---- Groups one after the other
 
 pub part_append : (xs ys : List Group) → part_items (xs ++ ys) ≡ part_items xs ++ part_items ys
-part_append xs ys = ap (map Question) (flat_both group_systems xs ys) ∙ map-append Question (flat_map group_systems xs) (flat_map group_systems ys)
+part_append xs ys = ap (map Question) (flat_map-append group_systems xs ys) ∙ map-append Question (flat_map group_systems xs) (flat_map group_systems ys)
 
 pub part_of_one : (g : Group) → part_items (g ∷ []) ≡ map Question (group_systems g)
 part_of_one g = ap (map Question) (append_nil (group_systems g))

@@ -1,5 +1,5 @@
 -- Items put behind others.
-use Rattle.std.proofs.Common.{◌≡◌, ℕ, ℤ, Option, Some, None, List, [], ◌∷◌, ◌++◌, map, flat_map, refl, sym, ap, ap₂, subst, inl, inr, ◌∙◌}
+use Rattle.std.proofs.Common.{◌≡◌, ℕ, ℤ, Option, Some, None, List, [], ◌∷◌, ◌++◌, map, flat_map, refl, sym, ap, ap₂, subst, ◌∙◌}
 use Rattle.std.specs.Prelude.{slice_get}
 use Rattle.std.proofs.lemmas.List.{map-append}
 use Rattle.affc_rows.specs.Forms.{Affine}
@@ -7,16 +7,17 @@ use Rattle.affc_system.specs.Systems.{Rows}
 use Rattle.affc_trace.specs.Law.{IsIn}
 use Rattle.affc_trace.proofs.EndedReads.{append_assoc}
 use Rattle.affc_trace.proofs.LastStores.{append_nil}
+use Rattle.affc_domain.proofs.Lists.{stands_in}
 use Rattle.affc_nest.specs.Asked.{IsExtent, IsSubscript}
 use Rattle.affc_nest.specs.Questions.{extents_or_none}
 use Rattle.affc_nest.specs.declared.nest.Access.{Access}
 use Rattle.affc_nest.specs.declared.nest.ArrayInfo.{ArrayInfo}
 use Rattle.affc_nest.specs.declared.nest.Entry.{Entry}
 use Rattle.affc_nest.specs.declared.nest.Nest.{Nest}
-use Rattle.affc_nest.proofs.QuestionLemmas.{stands_in}
 use Rattle.affc_sched.specs.Touched.{Each}
 use Rattle.affc_sched.specs.Questions as sched
 use Rattle.affc_products.specs.Groups.{group_systems}
+use Rattle.affc_sched.proofs.Lists.{each_from}
 use Rattle.affc_questions.specs.Listed.{in_ranges}
 use Rattle.affc_questions.specs.declared.ranged.Ranged.{Ranged}
 use Rattle.affc_check.specs.list.Held.{legality_item, flow_item}
@@ -61,12 +62,8 @@ by_groups ranges (r ∷ rs) =
 
 -- ---- What is known of each
 
-each_among : {A : Type 0} (P : A → Type 0) (ys : List A) → ((x : A) → IsIn x ys → P x) → Each P ys
-each_among P [] h = tt
-each_among P (y ∷ ys) h = (h y (inl refl), each_among P ys (λ z i. h z (inr i)))
-
 pub each_in : {A : Type 0} (P : A → Type 0) (xs ys : List A) → xs ≡ ys → ((x : A) → IsIn x ys → P x) → Each P xs
-each_in P xs ys e h = subst (Each P) (sym e) (each_among P ys h)
+each_in P xs ys e h = subst (Each P) (sym e) (each_from P ys h)
 
 pub each_extent : (nest : Nest) (a : ArrayInfo) (es : List Affine) → IsIn a nest.arrays → es ≡ a.extents → Each (IsExtent nest) es
 each_extent nest a es i e = each_in (IsExtent nest) es a.extents e (λ x j. record { array = a; declared = i; of_array = j })
@@ -86,5 +83,3 @@ extents_there nest array = there (slice_get nest.arrays array) refl
     there : (o : Option ArrayInfo) → slice_get nest.arrays array ≡ o → Each (IsExtent nest) (extents_or_none o)
     there None e = tt
     there (Some a) e = each_extent nest a a.extents (stands_in nest.arrays array a e) refl
-
--- ---- Subscripts and extents in turn

@@ -46,9 +46,6 @@ no_folds nest schedule trees cs ss a e h =
 
 -- ---- Their clash systems
 
-pub nothing_added : (nest : Nest) (schedule : Schedule) (trees : List Tree) (cs : List CertFold) (before : List (List PairSystem)) → cs ≡ [] → SystemsAdded nest schedule trees cs before before
-nothing_added nest schedule trees cs before e = record { systems = []; put = sym (append_nil before); are = subst (λ z. AreSystems nest schedule trees z []) (sym e) tt }
-
 module _ (nest : Nest) (schedule : Schedule) (trees : List Tree) (cs rest : List CertFold) (c : CertFold) (is : cs ≡ c ∷ rest) where
   pub large_ends : (before : List (List PairSystem)) → AnyLarge (clashes nest trees schedule c.array.0) → SystemsAdded nest schedule trees cs before before
   large_ends before h = record { systems = []; put = sym (append_nil before); are = subst (λ z. AreSystems nest schedule trees z []) (sym is) h }

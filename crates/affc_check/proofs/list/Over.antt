@@ -10,15 +10,15 @@ use Rattle.affc_trace.specs.declared.schedule.Schedule.{Schedule}
 use Rattle.affc_trace.specs.Law.{IsIn}
 use Rattle.affc_trace.proofs.Members.{to_map}
 use Rattle.affc_domain.specs.Ranges.{number_ranges}
-use Rattle.affc_domain.proofs.Lists.{length_map}
+use Rattle.affc_domain.proofs.Lists.{length_map, stands_in}
+use Rattle.affc_domain.proofs.ColumnLemmas.{values_long}
 use Rattle.affc_nest.specs.declared.nest.Access.{Access}
 use Rattle.affc_nest.specs.declared.nest.ArrayInfo.{ArrayInfo}
 use Rattle.affc_nest.specs.declared.nest.Entry.{Entry}
 use Rattle.affc_nest.specs.Laws.{HasNest, NamesArrays}
 use Rattle.affc_nest.specs.Nests.{nest_of}
 use Rattle.affc_nest.specs.Questions.{extents_or_none}
-use Rattle.affc_nest.proofs.QuestionLemmas.{as_many, stands_in}
-use Rattle.affc_order.proofs.ColumnLemmas.{values_long}
+use Rattle.affc_nest.proofs.QuestionLemmas.{as_many}
 use Rattle.affc_sched.proofs.LegalLemmas.{entry_at}
 use Rattle.affc_quast.specs.Limits.{Shaped, HaveShapes}
 use Rattle.affc_quast.specs.Trees.{Tree}

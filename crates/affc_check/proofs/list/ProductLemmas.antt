@@ -9,6 +9,7 @@ use Rattle.affc_system.specs.declared.pairs.PairSystem.{PairSystem}
 use Rattle.affc_trace.specs.Law.{IsIn}
 use Rattle.affc_trace.proofs.EndedReads.{append_assoc}
 use Rattle.affc_nest.specs.Domains.{gap_row, with_rows}
+use Rattle.affc_products.proofs.Eaches.{each_right}
 use Rattle.affc_conflicts.specs.Questions.{distance, agree_rows, over_columns, distance_question, distance_questions}
 use Rattle.affc_products.specs.Parts.{IsWithin}
 use Rattle.affc_products.specs.Products.{choices, product}
@@ -82,11 +83,7 @@ base_along : (rows : List Affine) (row b : Affine) (p : ClashProduct) (cs : List
 base_along rows row b p [] more some h = absurd (some refl)
 base_along rows row b p (c ∷ cs) more some h = let a = h.0 in record { basis = a.basis; there = a.there; over = a.over; first = a.first; second = a.second }
 
-each_behind : {A : Type 0} (P : A → Type 0) (xs ys : List A) → Each P (xs ++ ys) → Each P ys
-each_behind P [] ys h = h
-each_behind P (x ∷ xs) ys h = each_behind P xs ys h.1
-
 -- what holds of the elements of each clash system holds of each base's
 pub bases_along : (rows : List Affine) (row b : Affine) (ps : List ClashProduct) → Each (IsAlong rows row b) (clash_systems ps) → Each (λ p. IsAlong rows row b p.base) ps
 bases_along rows row b [] h = tt
-bases_along rows row b (p ∷ ps) h = (base_along rows row b p (choices p.factors) (clash_systems ps) p.some h, bases_along rows row b ps (each_behind (IsAlong rows row b) (systems_in p) (clash_systems ps) h))
+bases_along rows row b (p ∷ ps) h = (base_along rows row b p (choices p.factors) (clash_systems ps) p.some h, bases_along rows row b ps (each_right (IsAlong rows row b) (systems_in p) (clash_systems ps) h))

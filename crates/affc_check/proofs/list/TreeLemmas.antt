@@ -3,14 +3,15 @@ use Rattle.std.proofs.Common.{◌≡◌, ℕ, zero, suc, ◌+◌, ◌≤◌, Boo
 use Rattle.std.specs.Prelude.{nat_eq, slice_get}
 use Rattle.std.proofs.lemmas.List.{map-append}
 use Rattle.std.proofs.lemmas.Bool.{eqb-true}
+use Rattle.std.proofs.lemmas.List.Concat.{flat_map-append}
 use Rattle.affc_trace.proofs.EndedReads.{append_assoc}
-use Rattle.affc_trace.proofs.LastStores.{append_nil}
 use Rattle.affc_nest.specs.declared.nest.Access.{Access}
 use Rattle.affc_nest.specs.declared.nest.Entry.{Entry}
 use Rattle.affc_nest.specs.declared.nest.Nest.{Nest}
 use Rattle.affc_quast.specs.Leaves.{leaves_of}
 use Rattle.affc_quast.specs.Sources.{loads_in, loads_before, tree_of}
 use Rattle.affc_quast.specs.Trees.{Tree}
+use Rattle.affc_products.proofs.ProductLemmas.{flat_same, map_flat}
 use Rattle.affc_flow.specs.Questions.{leaf_questions, questions_of_load, questions_of_loads, flow_questions}
 use Rattle.affc_life.proofs.WalkLemmas.{later_tree}
 use Rattle.affc_check.specs.list.Held.{flow_item}
@@ -20,26 +21,15 @@ use Rattle.affc_check.specs.list.Walks.{leaf_items, load_items, own_items}
 
 -- ---- A load
 
-flat_by : {A B C : Type 0} (g : B → C) (F : A → List B) (xs : List A) → map g (flat_map F xs) ≡ flat_map (λ x. map g (F x)) xs
-flat_by g F [] = refl
-flat_by g F (x ∷ xs) = map-append g (F x) (flat_map F xs) ∙ ap (λ ys. map g (F x) ++ ys) (flat_by g F xs)
-
-pub flat_both : {A B : Type 0} (F : A → List B) (xs ys : List A) → flat_map F (xs ++ ys) ≡ flat_map F xs ++ flat_map F ys
-flat_both F [] ys = refl
-flat_both F (x ∷ xs) ys = ap (λ l. F x ++ l) (flat_both F xs ys) ∙ sym (append_assoc (F x) (flat_map F xs) (flat_map F ys))
-
 -- those of two parts of a list, one after the other
 pub flat_made : {A B : Type 0} (F : A → List B) (xs ys zs : List A) (old first new : List B) → zs ≡ xs ++ ys → first ≡ old ++ flat_map F xs → new ≡ first ++ flat_map F ys → new ≡ old ++ flat_map F zs
 flat_made F xs ys zs old first new i d e =
-    e ∙ ap (λ s. s ++ flat_map F ys) d ∙ append_assoc old (flat_map F xs) (flat_map F ys) ∙ ap (λ s. old ++ s) (sym (flat_both F xs ys) ∙ ap (flat_map F) (sym i))
-
-pub entries_made : {A B : Type 0} (F : A → List B) (xs rest : List A) (x : A) (old first new : List B) → xs ≡ x ∷ rest → first ≡ old ++ F x → new ≡ first ++ flat_map F rest → new ≡ old ++ flat_map F xs
-entries_made F xs rest x old first new i d e = e ∙ ap (λ s. s ++ flat_map F rest) d ∙ append_assoc old (F x) (flat_map F rest) ∙ ap (λ ys. old ++ flat_map F ys) (sym i)
+    e ∙ ap (λ s. s ++ flat_map F ys) d ∙ append_assoc old (flat_map F xs) (flat_map F ys) ∙ ap (λ s. old ++ s) (sym (flat_map-append F xs ys) ∙ ap (flat_map F) (sym i))
 
 -- the items of a tree, leaf by leaf
 pub tree_items : (nest : Nest) (reader : Entry) (load : Access) (tree : Tree)
     → flat_map (leaf_items nest reader load) (leaves_of (length nest.params + length reader.loops) tree) ≡ load_items nest reader load (Some tree)
-tree_items nest reader load tree = sym (flat_by flow_item (leaf_questions nest reader load (nest.params ++ reader.ranges)) (leaves_of (length nest.params + length reader.loops) tree))
+tree_items nest reader load tree = sym (map_flat flow_item (leaf_questions nest reader load (nest.params ++ reader.ranges)) (leaves_of (length nest.params + length reader.loops) tree))
 
 -- ---- The loads of a statement
 
@@ -61,22 +51,6 @@ own_next nest own reader n accesses (y ∷ ys) x e l = ap (own_items nest own re
 pub own_last : (nest : Nest) (own : List Tree) (reader : Entry) (n : ℕ) (accesses rest : List Access) (x : Access) → accesses ≡ x ∷ rest → length rest ≡ 0 → own_items nest own reader n accesses ≡ []
 own_last nest own reader n accesses [] x e l = ap (own_items nest own reader n) e
 own_last nest own reader n accesses (y ∷ ys) x e l = absurd (omega (arith, l))
-
-module _ (nest : Nest) (own : List Tree) (reader : Entry) (n : ℕ) (accesses rest : List Access) (x : Access) (is : accesses ≡ x ∷ rest) where
-  -- the part of the first load, and those of the others
-  pub loads_made : 1 ≤ length rest → (old first new : List (List Item)) → first ≡ old ++ load_items nest reader x (slice_get own n) ∷ [] → new ≡ first ++ own_items nest own reader (n + 1) rest
-      → new ≡ old ++ own_items nest own reader n accesses
-  loads_made more old first new d e =
-      let head = load_items nest reader x (slice_get own n) in
-      let tail = own_items nest own reader (n + 1) rest in
-      e ∙ ap (λ s. s ++ tail) d ∙ append_assoc old (head ∷ []) tail ∙ ap (λ s. old ++ s) (sym (own_next nest own reader n accesses rest x is more))
-
-  pub last_made : length rest ≡ 0 → (old : List (List Item)) → old ≡ old ++ own_items nest own reader n accesses
-  last_made l old = sym (append_nil old) ∙ ap (λ s. old ++ s) (sym (own_last nest own reader n accesses rest x is l))
-
--- a part without questions, and more of them
-pub none_made : (loads k : ℕ) (old first new : List (List Item)) → loads ≡ suc k → first ≡ old ++ [] ∷ [] → new ≡ first ++ replicate k [] → new ≡ old ++ replicate loads []
-none_made loads k old first new m d e = e ∙ ap (λ s. s ++ replicate k []) d ∙ append_assoc old ([] ∷ []) (replicate k []) ∙ ap (λ n. old ++ replicate n []) (sym m)
 
 -- ---- A statement
 
@@ -103,11 +77,7 @@ dead_entry nest trees reader dead = ap (λ t. if t then items_by_load nest trees
 
 flat_twice : {A B : Type 0} (F : A → List (List B)) (xs : List A) → flat_map (λ z. z) (flat_map F xs) ≡ flat_map (λ x. flat_map (λ z. z) (F x)) xs
 flat_twice F [] = refl
-flat_twice F (x ∷ xs) = flat_both (λ z. z) (F x) (flat_map F xs) ∙ ap (λ l. flat_map (λ z. z) (F x) ++ l) (flat_twice F xs)
-
-flat_same : {A B : Type 0} (f g : A → List B) → ((x : A) → f x ≡ g x) → (xs : List A) → flat_map f xs ≡ flat_map g xs
-flat_same f g h [] = refl
-flat_same f g h (x ∷ xs) = ap (λ ys. ys ++ flat_map f xs) (h x) ∙ ap (λ ys. g x ++ ys) (flat_same f g h xs)
+flat_twice F (x ∷ xs) = flat_map-append (λ z. z) (F x) (flat_map F xs) ∙ ap (λ l. flat_map (λ z. z) (F x) ++ l) (flat_twice F xs)
 
 by_load_flat : (nest : Nest) (trees : List Tree) (reader : Entry) (n : ℕ) (xs : List Access)
     → flat_map (λ z. z) (items_by_load nest trees reader n xs) ≡ map flow_item (questions_of_loads nest trees reader n xs)
@@ -133,4 +103,4 @@ pub trees_flat : (nest : Nest) (trees : List Tree) → flat_map (λ z. z) (items
 trees_flat nest trees =
     flat_twice (items_by_entry nest trees) nest.entries
     ∙ flat_same (λ e. flat_map (λ z. z) (items_by_entry nest trees e)) (λ e. map flow_item (if e.alive then questions_of_loads nest trees e 0 e.accesses else [])) (entry_flat nest trees) nest.entries
-    ∙ sym (flat_by flow_item (λ e. if e.alive then questions_of_loads nest trees e 0 e.accesses else []) nest.entries)
+    ∙ sym (map_flat flow_item (λ e. if e.alive then questions_of_loads nest trees e 0 e.accesses else []) nest.entries)

@@ -127,7 +127,7 @@ fn add_part<'a>(
 
 /// Adds the items of these folds, whose parts are numbered from `first` on and whose arrays have these clash systems. Past 2^64
 /// parts there is no memory for them.
-fn add_folds<'a>(
+pub(crate) fn add_folds<'a>(
     alloc: Global,
     nest: &'a Nest,
     flow: &Flow,

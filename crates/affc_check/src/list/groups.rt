@@ -27,7 +27,11 @@ fn add_group<'a>(alloc: Global, group: &'a Group, out: &mut Vec<Listed<'a>>) -> 
 }
 
 /// Adds the questions of these groups, if all keep the limits. The recursion is into halves, since there may be many.
-fn add_groups<'a>(alloc: Global, groups: &'a [Group], out: &mut Vec<Listed<'a>>) -> Result<(), Stop>
+pub(crate) fn add_groups<'a>(
+    alloc: Global,
+    groups: &'a [Group],
+    out: &mut Vec<Listed<'a>>,
+) -> Result<(), Stop>
     ensures ok { OnOk result (AreListed (flat_map listed_said out.old.items) (flat_map listed_said out.new.items) (part_items groups.now)) }
     ensures past { IfErr result (λ e. e ≡ Stop.Past → AnyPasses (part_items groups.now)) }
 {

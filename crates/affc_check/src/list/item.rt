@@ -3,7 +3,9 @@ ghost use Rattle.std.specs.Prelude.{◌≤◌};
 ghost use Rattle.std.specs.List.{All};
 ghost use Rattle.affc_system.specs.Systems.{IsRow};
 
+use affc_nest::{Access, Entry};
 use affc_products::{Block, Group};
+use affc_quast::Quast;
 use affc_questions::Long;
 use affc_system::System;
 use sqlite_items::Items;
@@ -39,4 +41,12 @@ pub struct Groups {
     pub trees: Items<Items<Group>>,
     /// Those on the schedule.
     pub schedule: Items<Group>,
+}
+
+/// A load of a statement that can have instances, with its tree.
+#[derive(Clone, Copy, Drop)]
+pub struct Loaded<'a> {
+    pub reader: &'a Entry,
+    pub load: &'a Access,
+    pub tree: &'a Quast,
 }

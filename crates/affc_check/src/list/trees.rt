@@ -10,9 +10,11 @@ ghost use Rattle.affc_quast.specs.SeenLeaves.{leaf_seen};
 ghost use Rattle.affc_quast.specs.Sources.{loads_in, loads_before};
 ghost use Rattle.affc_life.specs.Asked.{KeepLimits, KeepsLimits, IsLiving, IsPath, AreLoads};
 ghost use Rattle.affc_check.specs.list.Groups.{part_items, AreTreeGroups};
+ghost use Rattle.affc_check.specs.list.Loads.{part_said, IsPart, PartsPut, AreTreeParts};
 ghost use Rattle.affc_check.specs.list.Passes.{items_by_entry};
 ghost use Rattle.affc_check.specs.list.Walks.{leaf_items, load_items, own_items};
 
+use crate::list::item::Loaded;
 use affc_life::stores::{coordinates, params_in};
 use affc_life::walk::trees_from;
 use affc_nest::{Access, Entry, Nest};
@@ -35,7 +37,7 @@ fn add_ranged(ranged: Vec<Ranged>, out: &mut Vec<Group>) -> Result<(), AllocErro
 }
 
 /// Adds the questions of a leaf.
-fn add_leaf(
+pub(crate) fn add_leaf(
     alloc: Global,
     nest: &Nest,
     reader: &Entry,
@@ -80,7 +82,7 @@ fn add_leaves(
 }
 
 /// How many columns the tree of a load in an entry is over.
-fn columns_of(nest: &Nest, reader: &Entry) -> u32
+pub(crate) fn columns_of(nest: &Nest, reader: &Entry) -> u32
     requires nested { IsNest nest.now }
     requires reads { IsIn reader.now nest.now.entries }
     ensures value { result ≡ length nest.now.params + coordinates reader.now }
@@ -108,47 +110,85 @@ fn add_tree(
     add_leaves(alloc, nest, reader, load, leaves.as_slice(), out)
 }
 
-/// The questions of the load with this number, where the entry's loads have these trees.
-fn part_of(
+/// The questions of a part.
+fn groups_in(
     alloc: Global,
     nest: &Nest,
-    reader: &Entry,
-    trees: &[Quast],
-    number: usize,
-    load: &Access,
+    part: &Option<Loaded<'_>>,
 ) -> Result<Items<Group>, AllocError>
     requires nested { IsNest nest.now }
-    requires reads { IsLiving nest.now reader.now }
-    requires loads { AreLoads nest.now reader.now (map seen trees.now) }
-    requires load { IsIn load.now reader.now.accesses }
-    requires counts { number < loads_in reader.now }
-    ensures { IfOk result (λ part. part_items part ≡ load_items nest.now reader.now load.now (slice_get (map seen trees.now) number)) }
+    requires part { IsPart nest.now part.now }
+    ensures { IfOk result (λ groups. part_items groups ≡ part_said nest.now part.now) }
 {
-    match trees.get(number) {
+    match part {
         None => Ok(Items::new(alloc)),
-        Some(tree) => {
-            let mut part = Vec::new(alloc);
-            add_tree(alloc, nest, reader, load, tree, &mut part)?;
-            Ok(Items::from_vec(part))
+        Some(of) => {
+            let mut groups = Vec::new(alloc);
+            add_tree(alloc, nest, of.reader, of.load, of.tree, &mut groups)?;
+            Ok(Items::from_vec(groups))
         }
     }
 }
 
-/// Adds the parts of the loads from one on.
-fn add_loads(
+/// Adds the questions of these parts.
+fn add_groups_in(
     alloc: Global,
     nest: &Nest,
-    reader: &Entry,
-    trees: &[Quast],
-    number: usize,
-    accesses: &[Access],
+    parts: &[Option<Loaded<'_>>],
     out: &mut Items<Items<Group>>,
+) -> Result<(), AllocError>
+    requires nested { IsNest nest.now }
+    requires parts { Each (IsPart nest.now) parts.now }
+    ensures { OnOk result (map part_items out.new ≡ map part_items out.old ++ map (part_said nest.now) parts.now) }
+{
+    match parts {
+        [] => Ok(()),
+        [part, rest @ ..] => {
+            let groups = groups_in(alloc, nest, part)?;
+            out.push(groups)?;
+            add_groups_in(alloc, nest, rest, out)
+        }
+    }
+}
+
+// ---- Parts
+
+/// The part of the load with this number, where the entry's loads have these trees.
+fn part_of<'a>(
+    nest: &Nest,
+    reader: &'a Entry,
+    trees: &'a [Quast],
+    number: usize,
+    load: &'a Access,
+) -> Option<Loaded<'a>>
+    requires reads { IsLiving nest.now reader.now }
+    requires loads { AreLoads nest.now reader.now (map seen trees.now) }
+    requires load { IsIn load.now reader.now.accesses }
+    requires counts { number < loads_in reader.now }
+    ensures said { part_said nest.now result ≡ load_items nest.now reader.now load.now (slice_get (map seen trees.now) number) }
+    ensures part { IsPart nest.now result }
+{
+    let _nest = nest;
+    match trees.get(number) {
+        None => None,
+        Some(tree) => Some(Loaded { reader, load, tree }),
+    }
+}
+
+/// Adds the parts of the loads from one on.
+fn add_loads<'a>(
+    nest: &Nest,
+    reader: &'a Entry,
+    trees: &'a [Quast],
+    number: usize,
+    accesses: &'a [Access],
+    out: &mut Items<Option<Loaded<'a>>>,
 ) -> Result<(), AllocError>
     requires nested { IsNest nest.now }
     requires reads { IsLiving nest.now reader.now }
     requires loads { AreLoads nest.now reader.now (map seen trees.now) }
     requires rest { accesses.now ≡ drop number reader.now.accesses }
-    ensures { OnOk result (map part_items out.new ≡ map part_items out.old ++ own_items nest.now (map seen trees.now) reader.now number accesses.now) }
+    ensures { OnOk result (PartsPut nest.now (own_items nest.now (map seen trees.now) reader.now number accesses.now) out.old out.new) }
 {
     match accesses {
         [] => Ok(()),
@@ -156,65 +196,83 @@ fn add_loads(
             if rest.is_empty() {
                 return Ok(());
             }
-            let part = part_of(alloc, nest, reader, trees, number, load)?;
+            let part = part_of(nest, reader, trees, number, load);
             out.push(part)?;
-            add_loads(alloc, nest, reader, trees, number + 1, rest, out)
+            add_loads(nest, reader, trees, number + 1, rest, out)
         }
     }
 }
 
 /// Adds so many parts without questions.
-fn add_none(alloc: Global, loads: usize, out: &mut Items<Items<Group>>) -> Result<(), AllocError>
-    ensures { OnOk result (map part_items out.new ≡ map part_items out.old ++ replicate loads []) }
+fn add_none(
+    nest: &Nest,
+    loads: usize,
+    out: &mut Items<Option<Loaded<'_>>>,
+) -> Result<(), AllocError>
+    ensures { OnOk result (PartsPut nest.now (replicate loads []) out.old out.new) }
 {
     if loads == 0 {
         return Ok(());
     }
-    out.push(Items::new(alloc))?;
-    add_none(alloc, loads - 1, out)
+    out.push(None)?;
+    add_none(nest, loads - 1, out)
 }
 
 /// Adds the parts of an entry's loads.
-fn add_reader(
-    alloc: Global,
-    nest: &Nest,
-    trees: &[Quast],
-    reader: &Entry,
-    out: &mut Items<Items<Group>>,
+fn add_reader<'a>(
+    nest: &'a Nest,
+    trees: &'a [Quast],
+    reader: &'a Entry,
+    out: &mut Items<Option<Loaded<'a>>>,
 ) -> Result<(), AllocError>
     requires nested { IsNest nest.now }
     requires limits { KeepLimits nest.now (map seen trees.now) }
     requires reader { IsIn reader.now nest.now.entries }
-    ensures { OnOk result (map part_items out.new ≡ map part_items out.old ++ items_by_entry nest.now (map seen trees.now) reader.now) }
+    ensures { OnOk result (PartsPut nest.now (items_by_entry nest.now (map seen trees.now) reader.now) out.old out.new) }
 {
     let accesses = reader.accesses.as_slice();
     if !reader.alive {
-        return add_none(alloc, reader.accesses.len().saturating_sub(1), out);
+        return add_none(nest, reader.accesses.len().saturating_sub(1), out);
     }
     let own = trees_from(nest.entries.as_slice(), reader.part, trees);
-    add_loads(alloc, nest, reader, own, 0, accesses, out)
+    add_loads(nest, reader, own, 0, accesses, out)
 }
 
 /// Adds the parts of the loads of these entries.
-fn add_readers(
-    alloc: Global,
-    nest: &Nest,
-    trees: &[Quast],
-    readers: &[Entry],
-    out: &mut Items<Items<Group>>,
+fn add_readers<'a>(
+    nest: &'a Nest,
+    trees: &'a [Quast],
+    readers: &'a [Entry],
+    out: &mut Items<Option<Loaded<'a>>>,
 ) -> Result<(), AllocError>
     requires nested { IsNest nest.now }
     requires limits { KeepLimits nest.now (map seen trees.now) }
     requires readers { Each (λ e. IsIn e nest.now.entries) readers.now }
-    ensures { OnOk result (map part_items out.new ≡ map part_items out.old ++ flat_map (items_by_entry nest.now (map seen trees.now)) readers.now) }
+    ensures { OnOk result (PartsPut nest.now (flat_map (items_by_entry nest.now (map seen trees.now)) readers.now) out.old out.new) }
 {
     match readers {
         [] => Ok(()),
         [reader, rest @ ..] => {
-            add_reader(alloc, nest, trees, reader, out)?;
-            add_readers(alloc, nest, trees, rest, out)
+            add_reader(nest, trees, reader, out)?;
+            add_readers(nest, trees, rest, out)
         }
     }
+}
+
+/// The parts of all trees, one for each.
+pub(crate) fn tree_parts<'a>(
+    alloc: Global,
+    nest: &'a Nest,
+    flow: &'a Flow,
+) -> Result<Items<Option<Loaded<'a>>>, AllocError>
+    requires nested { IsNest nest.now }
+    requires limits { KeepLimits nest.now (trees_of flow.now) }
+    ensures { IfOk result (AreTreeParts nest.now (trees_of flow.now)) }
+{
+    let mut parts = Items::new(alloc);
+    let trees = flow.trees.as_slice();
+    add_readers(nest, trees, nest.entries.as_slice(), &mut parts)?;
+    Ok(parts)
 }
 
 /// The questions of all trees, a part for each.
@@ -227,8 +285,8 @@ pub(crate) fn tree_groups(
     requires limits { KeepLimits nest.now (trees_of flow.now) }
     ensures { IfOk result (AreTreeGroups nest.now (trees_of flow.now)) }
 {
-    let mut parts = Items::new(alloc);
-    let trees = flow.trees.as_slice();
-    add_readers(alloc, nest, trees, nest.entries.as_slice(), &mut parts)?;
-    Ok(parts)
+    let parts = tree_parts(alloc, nest, flow)?;
+    let mut groups = Items::new(alloc);
+    add_groups_in(alloc, nest, parts.as_slice(), &mut groups)?;
+    Ok(groups)
 }

@@ -27,3 +27,7 @@ returns-clause-ok c = record {
   is_checked = c.in_ok-checked.ensures.ok;
   are = refl;
 }
+
+pub returns-clause-spare : goal.returns-clause-spare
+unfolding returns-clause-ok
+returns-clause-spare c = record { accepted = returns-clause-ok c; proofs = refl }

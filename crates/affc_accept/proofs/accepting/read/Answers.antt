@@ -14,5 +14,5 @@ returns-in-Ok-from_text-clause-within c nest is =
 
 pub returns-in-Err-clause-err : goal.returns-in-Err-clause-err
 returns-in-Err-clause-err c nest plan is =
-    subst (AcceptRefuses nest plan c.args.text.now) (sym c.of_text.ensures)
+    subst (AcceptRefuses nest plan c.args.text.now) (sym c.of_text.ensures.cause)
     (text_refused nest c.args.layout.now plan c.args.text.now c.in-Err.fault is c.in-Err.ensures.json c.in-Err.ensures.err)

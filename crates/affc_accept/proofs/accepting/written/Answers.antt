@@ -13,5 +13,5 @@ returns-in-Ok-clause-within c nest is =
 
 pub returns-in-Err-clause-err : goal.returns-in-Err-clause-err
 returns-in-Err-clause-err c nest plan text is read =
-    subst (AcceptRefuses nest plan text) (sym c.of_text.ensures)
+    subst (AcceptRefuses nest plan text) (sym c.of_text.ensures.cause)
     (unwritten nest c.args.layout.now plan text c.args.cert c.in_ok-cert.cert c.in-Err.fault is c.in_ok-cert.ensures.turned c.in-Err.ensures.err read)

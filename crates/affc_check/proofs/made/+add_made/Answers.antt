@@ -1,6 +1,6 @@
 use Rattle.std.proofs.Common.{◌-◌, length, map, take, drop, refl, ap, subst, ◌∙◌}
 use Rattle.std.proofs.lemmas.Result.{on_ok_weaker}
-use Rattle.affc_sched.proofs.Lists.{front_is}
+use Rattle.affc_domain.proofs.Lists.{first_and_rest}
 use Rattle.affc_check.specs.Laws.{IsFoldShown}
 use Rattle.affc_check.specs.list.Walks.{clash_systems, fold_shown, folds_shown}
 use Rattle.affc_check.proofs.list.ListingLemmas.{none_below}
@@ -14,7 +14,7 @@ returns-in-empty t c =
 pub returns-in-empty-systems : goal.returns-in-empty-systems
 returns-in-empty-systems t c =
     let cs = c.args.folds.now in
-    let is = front_is cs c.fold-item.result c.in-len1-up.len_at_least c.fold-item.is in
+    let is = first_and_rest cs c.fold-item.result c.in-len1-up.len_at_least c.fold-item.is in
     nothing_made (folds_shown cs (map clash_systems c.args.systems.now)) c.args.out.now.items
     (ap (λ z. folds_shown cs (map clash_systems z)) (none_below c.args.systems.now c.in-empty-systems.len_below) ∙ ap (λ z. folds_shown z _) is)
 
@@ -26,6 +26,6 @@ returns-in_ok-push-in-len1-up-systems t c =
     let made = c.in_ok-made-in-len1-up-systems.made in
     on_ok_weaker c.add_made.result
     (λ e. next_made cs (take (length cs - 1) (drop 1 cs)) x (map clash_systems ss) (map clash_systems (take (length ss - 1) (drop 1 ss))) (clash_systems c.own-item.result) (x.array, made) c.args.out.now.items c.push.new.self.items c.add_made.new.out.items
-    (front_is cs x c.in-len1-up.len_at_least c.fold-item.is) (ap (map clash_systems) (front_is ss c.own-item.result c.in-len1-up-systems.len_at_least c.own-item.is))
+    (first_and_rest cs x c.in-len1-up.len_at_least c.fold-item.is) (ap (map clash_systems) (first_and_rest ss c.own-item.result c.in-len1-up-systems.len_at_least c.own-item.is))
     (record { array = refl; shown = subst (λ z. IsFoldShown (fold_shown x (clash_systems z)) made) c.as_slice.ensures c.in_ok-made-in-len1-up-systems.ensures })
     c.in_ok-push-in-len1-up-systems.ensures.items e) c.add_made.ensures

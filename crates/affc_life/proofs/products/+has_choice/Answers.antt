@@ -1,6 +1,6 @@
 use Rattle.std.proofs.Common.{◌≡◌, ◌-◌, [], length, take, drop, IsTrue, rules}
+use Rattle.affc_domain.proofs.Lists.{first_and_rest}
 use Rattle.affc_life.proofs.KeptLemmas.{choice_here}
-use Rattle.affc_order.proofs.ListLemmas.{first_and_rest}
 use Rattle.affc_life.proofs.products.+has_choice.Goals as goal
 
 pub returns-then-not-is_empty : goal.returns-then-not-is_empty

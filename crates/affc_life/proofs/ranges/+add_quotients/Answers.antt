@@ -1,8 +1,8 @@
 use Rattle.std.proofs.Common.{◌≡◌, ◌∷◌, [], ◌-◌, ◌++◌, pos, ◌≤ℤ◌, FitsSigned, w64, length, take, drop, refl, sym, subst, rules, arith, ap}
 use Rattle.std.proofs.lemmas.Result.{on_ok_weaker}
 use Rattle.std.proofs.lemmas.Int.{to_z-of_z}
+use Rattle.affc_domain.proofs.Lists.{first_and_rest}
 use Rattle.affc_nest.specs.Divisions.{quotient_range}
-use Rattle.affc_order.proofs.ListLemmas.{first_and_rest}
 use Rattle.affc_life.proofs.QuotientLemmas.{corner_fits, first_light, quotient_asks, quotient_near, quotient_few, quotient_made}
 use Rattle.affc_life.proofs.ranges.+add_quotients.Goals as goal
 

@@ -2,8 +2,8 @@ use Rattle.std.proofs.Common.{◌≡◌, ◌+◌, ◌-◌, ◌<◌, ◌⊎◌, �
 use Rattle.std.proofs.lemmas.Result.{err_from_is_err_and, IfErr-weaker}
 use Rattle.affc_rows.specs.Forms.{Affine}
 use Rattle.affc_system.specs.Systems.{FitsRow}
+use Rattle.affc_domain.proofs.Lists.{first_and_rest}
 use Rattle.affc_nest.specs.Domains.{with_rows}
-use Rattle.affc_order.proofs.ListLemmas.{first_and_rest}
 use Rattle.affc_life.proofs.LimitLemmas.{large_first, large_rest}
 use Rattle.affc_life.proofs.systems.+add_limited.Goals as goal
 

@@ -2,8 +2,8 @@ use Rattle.std.proofs.Common.{◌≡◌, ◌+◌, ◌-◌, ◌≤◌, ℕ, zero,
 use Rattle.std.specs.Prelude.{nat_eq}
 use Rattle.std.proofs.lemmas.List.{length-drop}
 use Rattle.std.proofs.lemmas.Result.{on_ok_weaker}
+use Rattle.affc_domain.proofs.Lists.{first_and_rest}
 use Rattle.affc_order.proofs.CodeLemmas.{is_nest}
-use Rattle.affc_order.proofs.ListLemmas.{first_and_rest}
 use Rattle.affc_quast.specs.Seen.{seen}
 use Rattle.affc_life.specs.Drafts.{drafted, walk_of, clashes_of_load}
 use Rattle.affc_life.proofs.SubscriptLemmas.{few_accesses}

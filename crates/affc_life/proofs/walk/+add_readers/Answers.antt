@@ -1,9 +1,9 @@
 use Rattle.std.proofs.Common.{◌-◌, length, map, flat_map, take, drop}
 use Rattle.std.proofs.lemmas.Result.{on_ok_weaker}
+use Rattle.affc_domain.proofs.Lists.{first_and_rest}
 use Rattle.affc_quast.specs.Seen.{seen}
 use Rattle.affc_life.specs.Clashes.{clashes_of_entry}
 use Rattle.affc_life.specs.Drafts.{drafted, walk_of}
-use Rattle.affc_order.proofs.ListLemmas.{first_and_rest}
 use Rattle.affc_life.proofs.WalkLemmas.{next_made}
 use Rattle.affc_life.proofs.walk.+add_readers.Goals as goal
 

@@ -1,9 +1,9 @@
 use Rattle.std.proofs.Common.{◌-◌, length, flat_map, take, drop}
 use Rattle.std.proofs.lemmas.Result.{on_ok_weaker}
+use Rattle.affc_domain.proofs.Lists.{first_and_rest}
 use Rattle.affc_quast.specs.SeenLeaves.{leaf_seen}
 use Rattle.affc_life.specs.Clashes.{clashes_with}
 use Rattle.affc_life.specs.Drafts.{drafted, instance_named, walk_of}
-use Rattle.affc_order.proofs.ListLemmas.{first_and_rest}
 use Rattle.affc_life.proofs.WalkLemmas.{next_made}
 use Rattle.affc_life.proofs.walk.+add_writers.Goals as goal
 

@@ -1,7 +1,7 @@
 use Rattle.std.proofs.Common.{◌≡◌, suc, ◌-◌, length, map, take, drop, ap, sym, ◌∙◌, arith}
 use Rattle.std.proofs.lemmas.List.{drop-map}
+use Rattle.affc_domain.proofs.Lists.{first_and_rest}
 use Rattle.affc_quast.specs.Seen.{seen}
-use Rattle.affc_order.proofs.ListLemmas.{first_and_rest}
 use Rattle.affc_life.proofs.WalkLemmas.{trees_behind}
 use Rattle.affc_life.proofs.walk.+trees_from.Goals as goal
 

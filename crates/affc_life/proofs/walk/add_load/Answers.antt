@@ -2,7 +2,7 @@ use Rattle.std.proofs.Common.{◌≡◌, true, map, flat_map, rules}
 use Rattle.std.proofs.lemmas.Result.{on_ok_weaker}
 use Rattle.std.specs.Prelude.{nat_eq}
 use Rattle.std.proofs.lemmas.Bool.{eq-eqb}
-use Rattle.affc_nest.proofs.QuestionLemmas.{stands_in}
+use Rattle.affc_domain.proofs.Lists.{stands_in}
 use Rattle.affc_quast.specs.Seen.{seen}
 use Rattle.affc_life.specs.Drafts.{drafted, walk_of}
 use Rattle.affc_life.proofs.WalkLemmas.{none_more, no_tree_load, load_made, tree_there, tree_not_there}

@@ -1,6 +1,6 @@
 use Rattle.std.proofs.Common.{◌-◌, length, sym, subst}
 use Rattle.affc_trace.specs.Law.{IsIn}
-use Rattle.affc_nest.proofs.QuestionLemmas.{stands_in}
+use Rattle.affc_domain.proofs.Lists.{stands_in}
 use Rattle.affc_life.proofs.walk.add_writer.Goals as goal
 
 pub add_store-requires-clause-store : goal.add_store-requires-clause-store

@@ -1,6 +1,6 @@
 use Rattle.std.proofs.Common.{flat_map, ◌≡◌, ◌+◌, ◌-◌, length, map, take, drop, ap, sym, subst, arith}
 use Rattle.std.proofs.lemmas.Result.{err_from_is_err_and, on_ok_weaker, IfErr-weaker}
-use Rattle.affc_sched.proofs.Lists.{front_is}
+use Rattle.affc_domain.proofs.Lists.{first_and_rest}
 use Rattle.affc_quast.specs.Seen.{trees_of}
 use Rattle.affc_check.specs.list.Certs.{IsFoldSaid}
 use Rattle.affc_check.specs.list.Held.{listed_said}
@@ -24,7 +24,7 @@ returns-in-empty-systems-clause-past t c = λ n e.
     let rest = take (length cs - 1) (drop 1 cs) in
     let ss = c.args.systems.now in
     let f = c.fold-item.result in
-    let is = front_is cs f c.in-len1-up.len_at_least c.fold-item.is in
+    let is = first_and_rest cs f c.in-len1-up.len_at_least c.fold-item.is in
     fold_first nest schedule trees cs rest f is c.args.first n (part_same c.args.first n e) (no_first nest schedule trees cs rest f is (map clash_systems ss) (ap (map clash_systems) (none_below ss c.in-empty-systems.len_below)) c.requires.systems)
 
 pub returns-in_err-add_part-in-len1-up-systems-clause-past : goal.returns-in_err-add_part-in-len1-up-systems-clause-past
@@ -32,7 +32,7 @@ returns-in_err-add_part-in-len1-up-systems-clause-past t c =
     let cs = c.args.folds.now in
     let rest = take (length cs - 1) (drop 1 cs) in
     let f = c.fold-item.result in
-    let is = front_is cs f c.in-len1-up.len_at_least c.fold-item.is in
+    let is = first_and_rest cs f c.in-len1-up.len_at_least c.fold-item.is in
     let p = err_from_is_err_and c.from_residual.result c.from_residual.ensures.1 in
     rw (p.1, p.2)
     (λ n e. let h = c.in_err-add_part-in-len1-up-systems.ensures.past n e in fold_first c.args.nest.now c.args.schedule.now (trees_of c.args.flow.now) cs rest f is c.args.first n h.0 h.1)
@@ -45,8 +45,8 @@ add_part-requires-clause-said t c =
     let others = take (length ss - 1) (drop 1 ss) in
     let f = c.fold-item.result in
     let own = c.own-item.result in
-    let is = front_is cs f c.in-len1-up.len_at_least c.fold-item.is in
-    let js = ap (map clash_systems) (front_is ss own c.in-len1-up-systems.len_at_least c.own-item.is) in
+    let is = first_and_rest cs f c.in-len1-up.len_at_least c.fold-item.is in
+    let js = ap (map clash_systems) (first_and_rest ss own c.in-len1-up-systems.len_at_least c.own-item.is) in
     let first = first_systems c.args.nest.now c.args.schedule.now (trees_of c.args.flow.now) cs rest f is (map clash_systems ss) (map clash_systems others) (clash_systems own) js c.requires.systems in
     subst (λ z. IsFoldSaid c.args.nest.now c.args.schedule.now (trees_of c.args.flow.now) f (fold_shown f (clash_systems z))) (sym c.as_slice-own.ensures) first.0.0
 
@@ -58,8 +58,8 @@ add_part-requires-clause-fits t c =
     let others = take (length ss - 1) (drop 1 ss) in
     let f = c.fold-item.result in
     let own = c.own-item.result in
-    let is = front_is cs f c.in-len1-up.len_at_least c.fold-item.is in
-    let js = ap (map clash_systems) (front_is ss own c.in-len1-up-systems.len_at_least c.own-item.is) in
+    let is = first_and_rest cs f c.in-len1-up.len_at_least c.fold-item.is in
+    let js = ap (map clash_systems) (first_and_rest ss own c.in-len1-up-systems.len_at_least c.own-item.is) in
     (first_systems c.args.nest.now c.args.schedule.now (trees_of c.args.flow.now) cs rest f is (map clash_systems ss) (map clash_systems others) (clash_systems own) js c.requires.systems).0.1
 
 pub returns-in-Some-clause-ok : goal.returns-in-Some-clause-ok
@@ -73,8 +73,8 @@ returns-in-Some-clause-ok t c =
     let others = take (length ss - 1) (drop 1 ss) in
     let f = c.fold-item.result in
     let own = c.own-item.result in
-    let is = front_is cs f c.in-len1-up.len_at_least c.fold-item.is in
-    let js = ap (map clash_systems) (front_is ss own c.in-len1-up-systems.len_at_least c.own-item.is) in
+    let is = first_and_rest cs f c.in-len1-up.len_at_least c.fold-item.is in
+    let js = ap (map clash_systems) (first_and_rest ss own c.in-len1-up-systems.len_at_least c.own-item.is) in
     let first = first_systems nest schedule trees cs rest f is (map clash_systems ss) (map clash_systems others) (clash_systems own) js c.requires.systems in
     let old = flat_map listed_said c.args.out.now.items in
     let mid = flat_map listed_said c.add_part.new.out.items in
@@ -88,7 +88,7 @@ returns-in-Some-clause-past t c =
     let cs = c.args.folds.now in
     let rest = take (length cs - 1) (drop 1 cs) in
     let f = c.fold-item.result in
-    let is = front_is cs f c.in-len1-up.len_at_least c.fold-item.is in
+    let is = first_and_rest cs f c.in-len1-up.len_at_least c.fold-item.is in
     let next : c.in-Some.next ≡ c.args.first + 1 = omega (arith, c.in-Some.ensures) in
     IfErr-weaker c.add_folds.result _ _
     (λ e h n q. fold_later c.args.nest.now c.args.schedule.now (trees_of c.args.flow.now) cs rest f is c.args.first c.in-Some.next n next c.in_ok-add_part-in-len1-up-systems.ensures.within (h n q)) c.add_folds.ensures.past

@@ -1,21 +1,21 @@
-use Rattle.std.proofs.Common.{◌-◌, ◌++◌, ◌∷◌, [], map, replicate, sym, ap, arith, ◌∙◌}
-use Rattle.std.proofs.lemmas.List.{map-append}
+use Rattle.std.proofs.Common.{◌≡◌, ℕ, suc, ◌-◌, ◌∷◌, [], List, None, replicate, refl, sym, ap, arith}
 use Rattle.std.proofs.lemmas.Result.{on_ok_weaker}
-use Rattle.affc_trace.proofs.LastStores.{append_nil}
-use Rattle.affc_check.specs.list.Groups.{part_items}
-use Rattle.affc_check.proofs.list.TreeLemmas.{none_made}
+use Rattle.affc_check.specs.list.Items.{Item}
+use Rattle.affc_check.proofs.list.LoadLemmas.{nothing_put, put_same, one_put, put_twice}
 use Rattle.affc_check.proofs.list.trees.+add_none.Goals as goal
 
+one_more : (loads k : ℕ) → loads ≡ suc k → ◌≡◌ {A = List (List Item)} ([] ∷ replicate k []) (replicate loads [])
+one_more loads k e = ap (λ n. replicate n []) (sym e)
+
 pub returns-then-loads-eq0 : goal.returns-then-loads-eq0
-returns-then-loads-eq0 t c =
-    let old = map part_items c.args.out.now in
-    sym (append_nil old) ∙ ap (λ n. old ++ replicate n []) (sym c.if-loads-eq0.true)
+returns-then-loads-eq0 t c = nothing_put c.args.nest.now (replicate c.args.loads []) c.args.out.now (ap (λ n. replicate n []) c.if-loads-eq0.true)
 
 pub returns : goal.returns
 returns t c =
-    let old = map part_items c.args.out.now in
+    let nest = c.args.nest.now in
     let loads = c.if-loads-eq0.false in
+    let fewer = c.args.loads - 1 in
     on_ok_weaker c.add_none.result
-    (none_made c.args.loads (c.args.loads - 1) old (map part_items c.push.new.self) (map part_items c.add_none.new.out) (omega (arith, loads))
-    (ap (map part_items) c.in_ok-push.ensures.ok ∙ map-append part_items c.args.out.now (c.new.result ∷ []) ∙ ap (λ p. old ++ part_items p ∷ []) c.new.ensures))
+    (λ h. put_same nest ([] ∷ replicate fewer []) (replicate c.args.loads []) c.args.out.now c.add_none.new.out (one_more c.args.loads fewer (omega (arith, loads)))
+    (put_twice nest ([] ∷ []) (replicate fewer []) c.args.out.now c.push.new.self c.add_none.new.out (one_put nest [] None c.args.out.now c.push.new.self c.in_ok-push.ensures.ok refl tt) h))
     c.add_none.ensures

@@ -1,18 +1,26 @@
-use Rattle.std.proofs.Common.{◌-◌, length, map, take, drop}
+use Rattle.std.proofs.Common.{◌-◌, ◌++◌, length, map, flat_map, take, drop, sym, ap}
 use Rattle.std.proofs.lemmas.Result.{on_ok_weaker}
-use Rattle.affc_sched.proofs.Lists.{front_is}
+use Rattle.affc_domain.proofs.Lists.{first_and_rest}
 use Rattle.affc_quast.specs.Seen.{seen}
-use Rattle.affc_check.specs.list.Groups.{part_items}
 use Rattle.affc_check.specs.list.Passes.{items_by_entry}
-use Rattle.affc_check.proofs.list.TreeLemmas.{entries_made}
+use Rattle.affc_check.proofs.list.ListingLemmas.{none_below}
+use Rattle.affc_check.proofs.list.LoadLemmas.{nothing_put, put_same, put_twice}
 use Rattle.affc_check.proofs.list.trees.+add_readers.Goals as goal
+
+pub returns-in-empty : goal.returns-in-empty
+returns-in-empty t c =
+    let F = items_by_entry c.args.nest.now (map seen c.args.trees.now) in
+    nothing_put c.args.nest.now (flat_map F c.args.readers.now) c.args.out.now (ap (flat_map F) (none_below c.args.readers.now c.in-empty.len_below))
 
 pub returns-in_ok-add_reader-in-len1-up : goal.returns-in_ok-add_reader-in-len1-up
 returns-in_ok-add_reader-in-len1-up t c =
+    let nest = c.args.nest.now in
+    let F = items_by_entry nest (map seen c.args.trees.now) in
     let es = c.args.readers.now in
     let rest = take (length es - 1) (drop 1 es) in
     let e = c.reader-item.result in
+    let is = first_and_rest es e c.in-len1-up.len_at_least c.reader-item.is in
     on_ok_weaker c.add_readers.result
-    (entries_made (items_by_entry c.args.nest.now (map seen c.args.trees.now)) es rest e (map part_items c.args.out.now) (map part_items c.add_reader.new.out) (map part_items c.add_readers.new.out)
-    (front_is es e c.in-len1-up.len_at_least c.reader-item.is) c.in_ok-add_reader-in-len1-up.ensures)
+    (λ h. put_same nest (F e ++ flat_map F rest) (flat_map F es) c.args.out.now c.add_readers.new.out (ap (flat_map F) (sym is))
+    (put_twice nest (F e) (flat_map F rest) c.args.out.now c.add_reader.new.out c.add_readers.new.out c.in_ok-add_reader-in-len1-up.ensures h))
     c.add_readers.ensures

@@ -1,18 +1,23 @@
-use Rattle.std.proofs.Common.{◌≡◌, ◌-◌, ◌++◌, [], replicate, map, drop, ap, ◌∙◌}
+use Rattle.std.proofs.Common.{◌≡◌, ◌-◌, [], replicate, map, drop, ap, ◌∙◌}
 use Rattle.std.proofs.lemmas.Result.{on_ok_weaker}
 use Rattle.affc_quast.specs.Seen.{seen}
 use Rattle.affc_quast.specs.Sources.{loads_in, loads_before}
 use Rattle.affc_life.proofs.SeatedLemmas.{its_place}
 use Rattle.affc_life.proofs.WalkLemmas.{own_loads}
-use Rattle.affc_check.specs.list.Groups.{part_items}
+use Rattle.affc_check.specs.list.Passes.{items_by_entry}
+use Rattle.affc_check.specs.list.Walks.{own_items}
+use Rattle.affc_check.proofs.list.LoadLemmas.{put_same}
 use Rattle.affc_check.proofs.list.TreeLemmas.{living_entry, dead_entry}
 use Rattle.affc_check.proofs.list.trees.add_reader.Goals as goal
 
 pub returns-then-not-reader : goal.returns-then-not-reader
 returns-then-not-reader c =
-    let old = map part_items c.args.out.now in
+    let nest = c.args.nest.now in
+    let trees = map seen c.args.trees.now in
     let loads : c.saturating_sub.result ≡ loads_in c.args.reader.now = c.saturating_sub.ensures ∙ ap (λ n. n - 1) c.len.ensures in
-    on_ok_weaker c.add_none.result (λ h. h ∙ ap (λ s. old ++ s) (ap (λ n. replicate n []) loads ∙ dead_entry c.args.nest.now (map seen c.args.trees.now) c.args.reader.now c.if-not-reader.true)) c.add_none.ensures
+    on_ok_weaker c.add_none.result
+    (put_same nest (replicate c.saturating_sub.result []) (items_by_entry nest trees c.args.reader.now) c.args.out.now c.add_none.new.out (ap (λ n. replicate n []) loads ∙ dead_entry nest trees c.args.reader.now c.if-not-reader.true))
+    c.add_none.ensures
 
 pub add_loads-requires-clause-reads : goal.add_loads-requires-clause-reads
 add_loads-requires-clause-reads c = record { there = c.requires.reader; alive = c.if-not-reader.false }
@@ -27,9 +32,11 @@ add_loads-requires-clause-loads c =
 
 pub returns : goal.returns
 returns c =
+    let nest = c.args.nest.now in
     let own = map seen c.trees_from-own.result.now in
     let trees = map seen c.args.trees.now in
     let reader = c.args.reader.now in
+    let accesses = c.as_slice-accesses.result.now in
     let is = c.trees_from-own.ensures ∙ ap (λ es. drop (loads_before es reader.part) trees) c.as_slice.ensures in
     on_ok_weaker c.add_loads.result
-    (λ h. h ∙ ap (λ s. map part_items c.args.out.now ++ s) (living_entry c.args.nest.now trees own reader is c.as_slice-accesses.result.now c.as_slice-accesses.ensures c.if-not-reader.false)) c.add_loads.ensures
+    (put_same nest (own_items nest own reader 0 accesses) (items_by_entry nest trees reader) c.args.out.now c.add_loads.new.out (living_entry nest trees own reader is accesses c.as_slice-accesses.ensures c.if-not-reader.false)) c.add_loads.ensures

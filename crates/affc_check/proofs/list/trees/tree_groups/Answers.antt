@@ -1,19 +1,13 @@
-use Rattle.std.proofs.Common.{map, flat_map, ◌++◌, sym, ap, subst, ◌∙◌}
-use Rattle.affc_quast.specs.Seen.{seen, trees_of}
-use Rattle.affc_life.specs.Asked.{KeepLimits}
+use Rattle.std.proofs.Common.{map, ◌++◌, sym, ap, subst, ◌∙◌}
+use Rattle.affc_sched.specs.Touched.{Each}
 use Rattle.affc_check.specs.list.Groups.{part_items}
-use Rattle.affc_check.specs.list.Passes.{items_by_entry}
-use Rattle.affc_check.proofs.list.ListLemmas.{each_there}
+use Rattle.affc_check.specs.list.Loads.{part_said, IsPart}
 use Rattle.affc_check.proofs.list.trees.tree_groups.Goals as goal
 
-pub add_readers-requires-clause-limits : goal.add_readers-requires-clause-limits
-add_readers-requires-clause-limits c = subst (KeepLimits c.args.nest.now) (ap (map seen) (sym c.as_slice-trees.ensures)) c.requires.limits
-
-pub add_readers-requires-clause-readers : goal.add_readers-requires-clause-readers
-add_readers-requires-clause-readers c = each_there c.as_slice.result.now c.args.nest.now.entries c.as_slice.ensures
+pub add_groups_in-requires-clause-parts : goal.add_groups_in-requires-clause-parts
+add_groups_in-requires-clause-parts c = subst (Each (IsPart c.args.nest.now)) (sym c.as_slice.ensures) c.in_ok-parts.ensures.each
 
 pub returns : goal.returns
 returns c =
     let nest = c.args.nest.now in
-    c.in_ok-add_readers.ensures ∙ ap (λ ps. map part_items ps ++ flat_map (items_by_entry nest (map seen c.as_slice-trees.result.now)) c.as_slice.result.now) c.new-parts.ensures
-    ∙ ap (λ ts. flat_map (items_by_entry nest (map seen ts)) c.as_slice.result.now) c.as_slice-trees.ensures ∙ ap (flat_map (items_by_entry nest (trees_of c.args.flow.now))) c.as_slice.ensures
+    c.in_ok-add_groups_in.ensures ∙ ap (λ gs. map part_items gs ++ map (part_said nest) c.as_slice.result.now) c.new-groups.ensures ∙ ap (map (part_said nest)) c.as_slice.ensures ∙ c.in_ok-parts.ensures.said

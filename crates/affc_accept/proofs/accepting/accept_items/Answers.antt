@@ -1,7 +1,7 @@
 use Rattle.std.proofs.Common.{sym, subst}
 use Rattle.affc_accept.specs.Refusals.{AcceptRefuses}
 use Rattle.affc_accept.proofs.Refused.{items_refused}
-use Rattle.affc_accept.proofs.accepting.checked.Goals as goal
+use Rattle.affc_accept.proofs.accepting.accept_items.Goals as goal
 
 pub returns-in-Err-clause-err : goal.returns-in-Err-clause-err
 returns-in-Err-clause-err c text read =
