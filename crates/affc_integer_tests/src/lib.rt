@@ -7,3 +7,5 @@
 mod basis;
 #[cfg(test)]
 mod farkas;
+#[cfg(test)]
+mod prove;

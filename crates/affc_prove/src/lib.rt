@@ -2,9 +2,10 @@
 #![tactic(auto)]
 
 mod bounds;
+mod halved;
 mod numbers;
 pub mod pruned;
 pub mod question;
 
 pub use pruned::lengthened;
-pub use question::{decided, proof_of, refutation};
+pub use question::{decided, proof_of, refutation, refutation_within};

@@ -4,8 +4,16 @@ use crate::bounds::{Ends, Origin, Term, end_at, end_row};
 use crate::numbers::{Numbers, mark, mark_all};
 use affc_farkas::{MultiplierFault, Multipliers, Proof, depth_at_most};
 use affc_system::System;
-use affc_system::system::MOST_ROWS;
 use std::alloc::{AllocError, Global};
+
+/// What becomes of a proof below a box.
+#[derive(Drop)]
+pub(crate) enum Fit {
+    /// A proof for the system alone.
+    Within(Proof),
+    /// More rows would stand at a node than may.
+    TooLong,
+}
 
 /// Why a proof isn't made.
 #[derive(Clone, Copy)]
@@ -213,42 +221,54 @@ fn used_ends(
     Ok(used)
 }
 
+/// How many more rows may stand behind those of a system, where at most so many may stand at a node.
+pub(crate) fn room_behind(system: &System, most: usize) -> Option<u32> {
+    let room = most.checked_sub(system.rows().len())?;
+    u32::try_from(room).ok()
+}
+
+/// A proof for the system alone of one for it with the rows of its box, whatever rows stand at its nodes.
+fn alone(alloc: Global, system: &System, ends: &Ends, proof: &Proof) -> Result<Proof, AllocError> {
+    let count = system.rows().len();
+    let Ok(rows) = u32::try_from(count) else {
+        return Err(AllocError);
+    };
+    let used = used_ends(alloc, ends, count, proof)?;
+    let columns = system.columns();
+    let merged = Numbers::of(alloc, rows, ends, used.as_slice(), true)?;
+    match made(alloc, columns, ends, &merged, proof) {
+        Ok(whole) => Ok(whole),
+        Err(Lack::Memory) => Err(AllocError),
+        Err(Lack::Past) => {
+            let apart = Numbers::of(alloc, rows, ends, used.as_slice(), false)?;
+            match made(alloc, columns, ends, &apart, proof) {
+                Ok(whole) => Ok(whole),
+                Err(_) => Err(AllocError),
+            }
+        }
+    }
+}
+
 /// A proof for the system alone of one for it with the rows of its box: what it uses of these is made by cuts, or stands in the
-/// system. Where more rows would stand at a node than may, it counts as want of memory.
+/// system. At most so many rows may stand at a node.
 pub(crate) fn pruned(
     alloc: Global,
     system: &System,
     ends: &Ends,
     proof: &Proof,
-) -> Result<Proof, AllocError> {
-    let count = system.rows().len();
-    let (Ok(rows), Some(room)) = (u32::try_from(count), MOST_ROWS.checked_sub(count)) else {
-        return Err(AllocError);
-    };
-    let Ok(room) = u32::try_from(room) else {
-        return Err(AllocError);
+    most: usize,
+) -> Result<Fit, AllocError> {
+    let Some(room) = room_behind(system, most) else {
+        return Ok(Fit::TooLong);
     };
     if !depth_at_most(proof, room) {
-        return Err(AllocError);
+        return Ok(Fit::TooLong);
     }
-    let used = used_ends(alloc, ends, count, proof)?;
-    let columns = system.columns();
-    let merged = Numbers::of(alloc, rows, ends, used.as_slice(), true)?;
-    let whole = match made(alloc, columns, ends, &merged, proof) {
-        Ok(whole) => whole,
-        Err(Lack::Memory) => return Err(AllocError),
-        Err(Lack::Past) => {
-            let apart = Numbers::of(alloc, rows, ends, used.as_slice(), false)?;
-            match made(alloc, columns, ends, &apart, proof) {
-                Ok(whole) => whole,
-                Err(_) => return Err(AllocError),
-            }
-        }
-    };
+    let whole = alone(alloc, system, ends, proof)?;
     if depth_at_most(&whole, room) {
-        Ok(whole)
+        Ok(Fit::Within(whole))
     } else {
-        Err(AllocError)
+        Ok(Fit::TooLong)
     }
 }
 
