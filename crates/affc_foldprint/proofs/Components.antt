@@ -14,20 +14,21 @@ use Rattle.affc_trace.specs.Target.{numbers_in}
 use Rattle.affc_domain.specs.Affine.{form_of}
 use Rattle.affc_domain.specs.Plain.{IsPlain, all_plain}
 use Rattle.affc_domain.proofs.Lists.{length_map}
-use Rattle.affc_loops.proofs.Scheduled.{numbers_are}
 use Rattle.affc_cprint.proofs.ReadBackValues.{Each}
 use Rattle.affc_basis.specs.declared.fold.Fold.{Fold}
 use Rattle.affc_basis.specs.FoldLists.{AreFoldsIn}
 use Rattle.affc_basis.specs.Folds.{KeepsLimits, forms_of, fold_of}
 use Rattle.affc_basis.specs.Moduli.{IsModulus}
 use Rattle.affc_basis.proofs.FoldsFound.{folds_are_found}
+use Rattle.affc_domain.proofs.RangeLemmas.{numbers_are}
+use Rattle.affc_loops.proofs.Sizes.{all_at}
 use Rattle.affc_foldloops.specs.Refolds.{Subscripts}
-use Rattle.affc_rewrite.specs.Rewrite.{is_one, is_unit, same_form, printed, component, components_from, subscripts_by, extent_forms, folded_subscripts, KeepLimits}
+use Rattle.affc_rewrite.specs.Rewrite.{is_one, is_unit, same_form, printed, component, components_from, subscripts_by, extent_forms, fold_at_work, folded_subscripts, KeepLimits}
 use Rattle.affc_rewrite.specs.Sizes.{IsRow, IsPrintable}
 use Rattle.affc_rewrite.proofs.Accesses.{sides_of}
 use Rattle.affc_rewrite.proofs.FoldsPrinted.{rows_of}
 use Rattle.affc_rewrite.proofs.Foldings.{few_rows}
-use Rattle.affc_rewrite.proofs.PrintedForms.{all_at}
+use Rattle.affc_rewrite.proofs.WholeFolds.{works}
 use Rattle.affc_rewrite.proofs.RowSizes.{row_printable, modulus_printable}
 
 -- what a remainder stands for
@@ -88,8 +89,8 @@ module _ (source : Program) (folds : List (ArrayId × Fold)) (plain : IsPlain so
       in_folds (g ∷ fs) f h (inr i) = in_folds fs f (λ j x l. h (suc j) x (omega (arith, l))) i
 
   -- its moduli are printable
-  pub moduli_are : (array : ℕ) (fold : Fold) → fold_of folds array ≡ Some fold → (j : ℕ) (b : Affine) → slice_get (forms_of fold.moduli) j ≡ Some b → IsPrintable first b
-  moduli_are array fold e j b f = modulus_printable first b few_first (all_at (IsModulus first) (forms_of fold.moduli) j b (keeps array fold e) f)
+  pub moduli_are : (array : ℕ) (fold : Fold) → fold_at_work source folds array ≡ Some fold → (j : ℕ) (b : Affine) → slice_get (forms_of fold.moduli) j ≡ Some b → IsPrintable first b
+  moduli_are array fold e j b f = modulus_printable first b few_first (all_at (IsModulus first) (forms_of fold.moduli) j b (keeps array fold (works (extent_forms source) folds array fold e)) f)
 
   -- so are the rows of an access
   pub rows_are : (n : ℕ) (fold : Fold) (subs : List Ix) → n ≤ 16 → IsTrue (all_plain n subs) → length subs ≡ length fold.basis.rows
@@ -103,12 +104,12 @@ module _ (source : Program) (folds : List (ArrayId × Fold)) (plain : IsPlain so
   -- what holds of the subscripts, of 0 and of remainders holds of what comes in their place
   pub at_have : (P : Ix → Type 0) (n : ℕ) (array : ArrayId) (subs : List Ix) → n ≤ 16 → IsTrue (all_plain n subs) → Each P subs
       → P (Lit (pos 0)) → ((f b : Affine) → RemainderOf first n f b → P (Mod (printed first f) (printed first b))) → Each P (at n array subs)
-  at_have P n array subs short h own zero_has mod_has = by (fold_of folds array.0) refl
+  at_have P n array subs short h own zero_has mod_has = by (fold_at_work source folds array.0) refl
     where
       extents : List Affine
       extents = get_or (extent_forms source) array.0 []
 
-      by : (o : Option Fold) → fold_of folds array.0 ≡ o → Each P (subscripts_by o first n extents subs)
+      by : (o : Option Fold) → fold_at_work source folds array.0 ≡ o → Each P (subscripts_by o first n extents subs)
       by None e = own
       by (Some fold) e = by_count (nat_eq (length subs) (length fold.basis.rows)) refl
         where

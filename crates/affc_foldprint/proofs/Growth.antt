@@ -28,9 +28,9 @@ use Rattle.affc_loopprint.proofs.reprint.Rows.{Under, under_more, under_both, un
 use Rattle.affc_loopprint.proofs.ShapeForms.{form_few}
 use Rattle.affc_basis.specs.declared.fold.Fold.{Fold}
 use Rattle.affc_basis.specs.FoldLists.{AreFoldsIn}
-use Rattle.affc_basis.specs.Folds.{forms_of, fold_of}
+use Rattle.affc_basis.specs.Folds.{forms_of}
 use Rattle.affc_foldloops.specs.Refolds.{Subscripts, refold_value}
-use Rattle.affc_rewrite.specs.Rewrite.{is_one, is_unit, same_form, printed, component, components_from, subscripts_by, extent_forms, folded_subscripts, KeepLimits}
+use Rattle.affc_rewrite.specs.Rewrite.{is_one, is_unit, same_form, printed, component, components_from, subscripts_by, extent_forms, fold_at_work, folded_subscripts, KeepLimits}
 use Rattle.affc_rewrite.specs.Sizes.{IsPrintable}
 use Rattle.affc_rewrite.proofs.Foldings.{few_rows}
 use Rattle.affc_foldprint.proofs.Components.{few_first, moduli_are, rows_are}
@@ -134,7 +134,7 @@ module _ (prelude : Bool) where
 
     pub access_more : (n : ℕ) (array : ArrayId) (subs : List Ix) (e : Extent) → n ≤ 16 → IsTrue (all_plain n subs) → e.tokens ≤ 2 ^ 64 - 1
         → More 520 (dims_behind prelude e (fresh n array subs)) (dims_behind prelude e subs)
-    access_more n array subs e short h l = by (fold_of folds array.0) refl
+    access_more n array subs e short h l = by (fold_at_work source folds array.0) refl
       where
         extents : List Affine
         extents = get_or (extent_forms source) array.0 []
@@ -142,7 +142,7 @@ module _ (prelude : Bool) where
         parameters : ℕ
         parameters = numbers_in source.params
 
-        by : (o : Option Fold) → fold_of folds array.0 ≡ o → More 520 (dims_behind prelude e (subscripts_by o parameters n extents subs)) (dims_behind prelude e subs)
+        by : (o : Option Fold) → fold_at_work source folds array.0 ≡ o → More 520 (dims_behind prelude e (subscripts_by o parameters n extents subs)) (dims_behind prelude e subs)
         by None q = more_self 520 (dims_behind prelude e subs)
         by (Some fold) q = by_count (nat_eq (length subs) (length fold.basis.rows)) refl
           where

@@ -18,10 +18,11 @@ use Rattle.affc_grammar.specs.Names.{is_input}
 use Rattle.affc_wellnamed.specs.Known.{takes, param_arrays}
 use Rattle.affc_basis.specs.declared.fold.Fold.{Fold}
 use Rattle.affc_basis.specs.FoldLists.{AreFoldsIn}
-use Rattle.affc_basis.specs.Folds.{forms_of, fold_of}
+use Rattle.affc_basis.specs.Folds.{forms_of}
 use Rattle.affc_foldloops.specs.Refolds.{Subscripts}
 use Rattle.affc_foldloops.proofs.ReplaceLemmas.{fold_in}
-use Rattle.affc_rewrite.specs.Rewrite.{printed, components_from, subscripts_by, extent_forms, folded_subscripts, decl_by, decls_from, folded_temps}
+use Rattle.affc_rewrite.specs.Rewrite.{printed, components_from, at_work, subscripts_by, extent_forms, fold_at_work, folded_subscripts, decl_by, decls_from, folded_temps}
+use Rattle.affc_rewrite.proofs.WholeFolds.{works}
 use Rattle.affc_foldprint.proofs.Components.{components_long}
 
 -- where an entry of two lists stands
@@ -39,13 +40,14 @@ split (d ∷ ds) es fs (suc i) = elim (split ds es fs i) [
   | inr h ↦ let p = h.place in inr (record { at = h.at; place = omega (arith, p); first = h.first; second = h.second })
 ]
 
-decl_at : (first : ℕ) (folds : List (ArrayId × Fold)) (array : ℕ) (ds : List Decl) (j : ℕ) → slice_get (decls_from first folds array ds) j ≡ option_map (decl_by (fold_of folds (array + j)) first) (slice_get ds j)
-decl_at first folds array [] j = refl
-decl_at first folds array (d ∷ ds) zero = let z : array ≡ array + 0 = omega arith in ap (λ n. Some (decl_by (fold_of folds n) first d)) z
-decl_at first folds array (d ∷ ds) (suc j) =
-    let z : suc array + j ≡ array + suc j = omega arith in decl_at first folds (suc array) ds j ∙ ap (λ n. option_map (decl_by (fold_of folds n) first) (slice_get ds j)) z
+module _ (first : ℕ) (all : List (List Affine)) (folds : List (ArrayId × Fold)) where
+  decl_at : (array : ℕ) (ds : List Decl) (j : ℕ) → slice_get (decls_from first all folds array ds) j ≡ option_map (decl_by (at_work all folds (array + j)) first) (slice_get ds j)
+  decl_at array [] j = refl
+  decl_at array (d ∷ ds) zero = let z : array ≡ array + 0 = omega arith in ap (λ n. Some (decl_by (at_work all folds n) first d)) z
+  decl_at array (d ∷ ds) (suc j) =
+      let z : suc array + j ≡ array + suc j = omega arith in decl_at (suc array) ds j ∙ ap (λ n. option_map (decl_by (at_work all folds n) first) (slice_get ds j)) z
 
-abbrev forms_at : (first : ℕ) → List Decl → (i : ℕ) → List Affine
+abbrev pub forms_at : (first : ℕ) → List Decl → (i : ℕ) → List Affine
 forms_at first ds i = get_or (map (λ (x : Decl). map (form_of first 0) x.extents) ds) i []
 
 own_forms : (first : ℕ) (es : List Decl) (j : ℕ) (d : Decl) → slice_get es j ≡ Some d → forms_at first es j ≡ map (form_of first 0) d.extents
@@ -53,7 +55,7 @@ own_forms first [] j d e = absurd (none-some d e)
 own_forms first (x ∷ es) zero d e = ap (λ (y : Decl). map (form_of first 0) y.extents) (same_Some x d e)
 own_forms first (x ∷ es) (suc j) d e = own_forms first es j d e
 
-form_at : (first : ℕ) (ds es : List Decl) (j i : ℕ) (d : Decl) → i ≡ length ds + j → slice_get es j ≡ Some d → forms_at first (ds ++ es) i ≡ map (form_of first 0) d.extents
+pub form_at : (first : ℕ) (ds es : List Decl) (j i : ℕ) (d : Decl) → i ≡ length ds + j → slice_get es j ≡ Some d → forms_at first (ds ++ es) i ≡ map (form_of first 0) d.extents
 form_at first [] es j i d p e = let q : i ≡ j = omega (arith, p) in ap (forms_at first es) q ∙ own_forms first es j d e
 form_at first (x ∷ ds) es j zero d p e = absurd (omega (arith, p))
 form_at first (x ∷ ds) es j (suc i) d p e = form_at first ds es j i d (omega (arith, p)) e
@@ -81,10 +83,10 @@ module _ (source : Program) (folds : List (ArrayId × Fold)) (are : AreFoldsIn s
 
   -- a temporary
   temp_takes : (is_store : Bool) (n : ℕ) (subs : List Ix) (array at : ℕ) (d : Decl) → array ≡ length given + at → slice_get source.temps at ≡ Some d → takes is_store (length subs) (Some d) ≡ true
-      → (o : Option Fold) → fold_of folds array ≡ o → takes is_store (length (subscripts_by o first n (extents array) subs)) (Some (decl_by o first d)) ≡ true
+      → (o : Option Fold) → fold_at_work source folds array ≡ o → takes is_store (length (subscripts_by o first n (extents array) subs)) (Some (decl_by o first d)) ≡ true
   temp_takes is_store n subs array at d place stands h None e = h
   temp_takes is_store n subs array at d place stands h (Some fold) e =
-      let f = fold_in source folds are array fold e in
+      let f = fold_in source folds are array fold (works (extent_forms source) folds array fold e) in
       let behind = f.behind in
       let same_place : f.number ≡ at = omega (arith, behind, place) in
       let same : f.decl ≡ d = same_Some f.decl d (sym f.stands ∙ ap (slice_get source.temps) same_place ∙ stands) in
@@ -103,9 +105,9 @@ module _ (source : Program) (folds : List (ArrayId × Fold)) (are : AreFoldsIn s
 
   -- an array that is no temporary has no fold
   given_takes : (is_store : Bool) (n : ℕ) (subs : List Ix) (array : ℕ) (o' : Option Decl) → array < length given → takes is_store (length subs) o' ≡ true
-      → (o : Option Fold) → fold_of folds array ≡ o → takes is_store (length (subscripts_by o first n (extents array) subs)) o' ≡ true
+      → (o : Option Fold) → fold_at_work source folds array ≡ o → takes is_store (length (subscripts_by o first n (extents array) subs)) o' ≡ true
   given_takes is_store n subs array o' l h None e = h
-  given_takes is_store n subs array o' l h (Some fold) e = let f = (fold_in source folds are array fold e).behind in absurd (omega (arith, l, f))
+  given_takes is_store n subs array o' l h (Some fold) e = let f = (fold_in source folds are array fold (works (extent_forms source) folds array fold e)).behind in absurd (omega (arith, l, f))
 
   no_decl : (b : Bool) (k : ℕ) {A : Type 0} → takes b k None ≡ true → A
   no_decl b k h = absurd (false≢true h)
@@ -114,7 +116,7 @@ module _ (source : Program) (folds : List (ArrayId × Fold)) (are : AreFoldsIn s
       → takes is_store (length (fresh n array subs)) (slice_get (given ++ temps) array.0) ≡ true
   fold_takes is_store n array subs h = elim (split given source.temps temps array.0) [
     | inl q ↦
-        given_takes is_store n subs array.0 (slice_get (given ++ temps) array.0) q.0 (ap (takes is_store (length subs)) (sym q.1) ∙ h) (fold_of folds array.0) refl
+        given_takes is_store n subs array.0 (slice_get (given ++ temps) array.0) q.0 (ap (takes is_store (length subs)) (sym q.1) ∙ h) (fold_at_work source folds array.0) refl
     | inr q ↦ by q (slice_get source.temps q.at) refl
   ]
     where
@@ -122,7 +124,7 @@ module _ (source : Program) (folds : List (ArrayId × Fold)) (are : AreFoldsIn s
       by q None e = no_decl is_store (length subs) (ap (takes is_store (length subs)) (sym (q.first ∙ e)) ∙ h)
       by q (Some d) e =
           let place = q.place in
-          let there : slice_get (given ++ temps) array.0 ≡ Some (decl_by (fold_of folds array.0) first d) =
-          q.second ∙ decl_at first folds (length given) source.temps q.at ∙ ap (option_map (decl_by (fold_of folds (length given + q.at)) first)) e ∙ ap (λ m. Some (decl_by (fold_of folds m) first d)) (sym place) in
+          let there : slice_get (given ++ temps) array.0 ≡ Some (decl_by (fold_at_work source folds array.0) first d) =
+          q.second ∙ decl_at first (extent_forms source) folds (length given) source.temps q.at ∙ ap (option_map (decl_by (fold_at_work source folds (length given + q.at)) first)) e ∙ ap (λ m. Some (decl_by (fold_at_work source folds m) first d)) (sym place) in
           ap (takes is_store (length (fresh n array subs))) there
-          ∙ temp_takes is_store n subs array.0 q.at d place e (ap (takes is_store (length subs)) (sym (q.first ∙ e)) ∙ h) (fold_of folds array.0) refl
+          ∙ temp_takes is_store n subs array.0 q.at d place e (ap (takes is_store (length subs)) (sym (q.first ∙ e)) ∙ h) (fold_at_work source folds array.0) refl

@@ -32,19 +32,19 @@ use Rattle.affc_domain.specs.Ranges.{number_ranges}
 use Rattle.affc_domain.proofs.Lists.{both_true}
 use Rattle.affc_grammar.specs.Grammar.{Name}
 use Rattle.affc_grammar.specs.Names.{is_time_name}
-use Rattle.affc_loops.proofs.Scheduled.{numbers_are}
 use Rattle.affc_cprint.specs.Forms.{is_none}
 use Rattle.affc_cprint.proofs.ReadBackValues.{Each}
 use Rattle.affc_wellnamed.specs.Known as known
 use Rattle.affc_wellnamed.specs.Known.{Known, and_iterator, and_locals, is_new, is_bound, ix_step, ix_known, ixs_known, compares_known, takes, value_step, value_known, all_at, for_known, if_known, assign_known, block_known, stmt_known, is_temp, is_number, number_count, param_name, param_arrays, known_behind, extents_known, param_known, params_known, temp_known, temps_known, is_function, context_known, program_known}
+use Rattle.affc_domain.proofs.RangeLemmas.{numbers_are}
 use Rattle.affc_loopprint.proofs.KnownHeads as heads
 use Rattle.affc_loopprint.proofs.Moved.{wider, all_wider, tests_wider}
 use Rattle.affc_loopprint.proofs.Sums.{sums_known}
 use Rattle.affc_basis.specs.declared.fold.Fold.{Fold}
 use Rattle.affc_basis.specs.FoldLists.{AreFoldsIn}
-use Rattle.affc_basis.specs.Folds.{forms_of, fold_of}
+use Rattle.affc_basis.specs.Folds.{forms_of}
 use Rattle.affc_foldloops.specs.Refolds.{Subscripts, refold_value, refold_step, each_under}
-use Rattle.affc_rewrite.specs.Rewrite.{printed, decl_by, decls_from, folded_temps, folded_subscripts, call_step, has_call, some_call, value_call_step, test_calls, stmt_call_step, folded_program, KeepLimits}
+use Rattle.affc_rewrite.specs.Rewrite.{printed, decl_by, decls_from, extent_forms, fold_at_work, folded_temps, folded_subscripts, call_step, has_call, some_call, value_call_step, test_calls, stmt_call_step, folded_program, KeepLimits}
 use Rattle.affc_rewrite.specs.Sizes.{IsPrintable}
 use Rattle.affc_foldprint.proofs.Components.{RemainderOf, at_have, moduli_are}
 use Rattle.affc_foldprint.proofs.KnownArrays.{same_arrays, fold_takes}
@@ -284,7 +284,7 @@ module _ (source : Program) (folds : List (ArrayId × Fold)) (plain : IsPlain so
     decl_name None d = refl
     decl_name (Some fold) d = refl
 
-    temp_more : (old new : Known) → Alike prelude old new → first ≤ new.numbers → (array : ℕ) (d : Decl) → temp_known old d ≡ true → (o : Option Fold) → fold_of folds array ≡ o → temp_known new (decl_by o first d) ≡ true
+    temp_more : (old new : Known) → Alike prelude old new → first ≤ new.numbers → (array : ℕ) (d : Decl) → temp_known old d ≡ true → (o : Option Fold) → fold_at_work source folds array ≡ o → temp_known new (decl_by o first d) ≡ true
     temp_more old new a l array d h o e = by o e
       where
         p : (is_new old false d.name ≡ true) × (is_temp d.role && ixs_known old d.extents ≡ true)
@@ -293,7 +293,7 @@ module _ (source : Program) (folds : List (ArrayId × Fold)) (plain : IsPlain so
         q : (is_temp d.role ≡ true) × (ixs_known old d.extents ≡ true)
         q = and_parts (is_temp d.role) (ixs_known old d.extents) p.1
 
-        by : (o : Option Fold) → fold_of folds array ≡ o → temp_known new (decl_by o first d) ≡ true
+        by : (o : Option Fold) → fold_at_work source folds array ≡ o → temp_known new (decl_by o first d) ≡ true
         by None e = and_from _ _ (new_more prelude old new a false d.name p.0) (and_from _ _ q.0 (ixs_more prelude old new a d.extents q.1))
         by (Some fold) e = and_from _ _ (new_more prelude old new a false d.name p.0) (and_from _ _ q.0 (moduli_known new (forms_of fold.moduli) l (moduli_are source folds plain are limits array fold e)))
 
@@ -304,17 +304,17 @@ module _ (source : Program) (folds : List (ArrayId × Fold)) (plain : IsPlain so
         split [] x = refl
         split (y ∷ xs) x = ap (λ l. y.name ∷ l) (split xs x)
 
-    temps_more : (f : Name) (array : ℕ) (bs ds xs : List Decl) → names bs ≡ names ds → temps_known false f source.params ds xs ≡ true → temps_known prelude f source.params bs (decls_from first folds array xs) ≡ true
+    temps_more : (f : Name) (array : ℕ) (bs ds xs : List Decl) → names bs ≡ names ds → temps_known false f source.params ds xs ≡ true → temps_known prelude f source.params bs (decls_from first (extent_forms source) folds array xs) ≡ true
     temps_more f array bs ds [] e h = refl
     temps_more f array bs ds (x ∷ xs) e h =
         let p = and_parts (temp_known (known_behind false f source.params ds) x) (temps_known false f source.params (ds ++ x ∷ []) xs) h in
         let c = heads.numbers_are source.params in
-        and_from _ _ (temp_more (known_behind false f source.params ds) (known_behind prelude f source.params bs) (behind_alike f source.params bs ds e) (omega (arith, c)) array x p.0 (fold_of folds array) refl)
-        (temps_more f (suc array) (bs ++ decl_by (fold_of folds array) first x ∷ []) (ds ++ x ∷ []) xs (names_last bs ds (decl_by (fold_of folds array) first x) x e (decl_name (fold_of folds array) x)) p.1)
+        and_from _ _ (temp_more (known_behind false f source.params ds) (known_behind prelude f source.params bs) (behind_alike f source.params bs ds e) (omega (arith, c)) array x p.0 (fold_at_work source folds array) refl)
+        (temps_more f (suc array) (bs ++ decl_by (fold_at_work source folds array) first x ∷ []) (ds ++ x ∷ []) xs (names_last bs ds (decl_by (fold_at_work source folds array) first x) x e (decl_name (fold_at_work source folds array) x)) p.1)
 
-    names_kept : (array : ℕ) (xs : List Decl) → names (decls_from first folds array xs) ≡ names xs
+    names_kept : (array : ℕ) (xs : List Decl) → names (decls_from first (extent_forms source) folds array xs) ≡ names xs
     names_kept array [] = refl
-    names_kept array (x ∷ xs) = ap (λ w. w ∷ names (decls_from first folds (suc array) xs)) (decl_name (fold_of folds array) x) ∙ ap (λ l. x.name ∷ l) (names_kept (suc array) xs)
+    names_kept array (x ∷ xs) = ap (λ w. w ∷ names (decls_from first (extent_forms source) folds (suc array) xs)) (decl_name (fold_at_work source folds array) x) ∙ ap (λ l. x.name ∷ l) (names_kept (suc array) xs)
 
   -- ---- The program
 

@@ -26,7 +26,6 @@ use Rattle.affc_domain.specs.Plain.{IsPlain, all_plain, plain_value, plain_tests
 use Rattle.affc_domain.specs.Accesses.{accesses_of}
 use Rattle.affc_domain.specs.Ranges.{number_ranges}
 use Rattle.affc_domain.proofs.Lists.{both_true, length_map}
-use Rattle.affc_loops.proofs.Scheduled.{numbers_are}
 use Rattle.affc_cprint.specs.Forms.{form, form_step, compare_passes, value_step, value_passes, param_passes, decl_passes, stmt_step, stmt_passes, program_passes}
 use Rattle.affc_cprint.proofs.ReadBackValues.{Each}
 use Rattle.affc_wellnamed.specs.Plain.{is_plain}
@@ -34,12 +33,13 @@ use Rattle.affc_wellnamed.specs.Work as works
 use Rattle.affc_wellnamed.specs.Work.{load_step, loads, one_work, no_work, work, stmts_behind, is_bounded, param_fits, has_few, program_fits}
 use Rattle.affc_wellnamed.specs.Known.{number_count}
 use Rattle.affc_wellnamed.specs.Shape.{plus}
+use Rattle.affc_domain.proofs.RangeLemmas.{numbers_are}
 use Rattle.affc_loopprint.proofs.Sums.{SumCases, sums_plain, narrow_has}
 use Rattle.affc_basis.specs.declared.fold.Fold.{Fold}
 use Rattle.affc_basis.specs.FoldLists.{AreFoldsIn}
-use Rattle.affc_basis.specs.Folds.{forms_of, fold_of}
+use Rattle.affc_basis.specs.Folds.{forms_of}
 use Rattle.affc_foldloops.specs.Refolds.{Subscripts, refold_value, refold_step, each_under}
-use Rattle.affc_rewrite.specs.Rewrite.{printed, decl_by, decls_from, folded_subscripts, folded_program, KeepLimits}
+use Rattle.affc_rewrite.specs.Rewrite.{printed, at_work, decl_by, decls_from, extent_forms, fold_at_work, folded_subscripts, folded_program, KeepLimits}
 use Rattle.affc_rewrite.specs.Sizes.{IsPrintable}
 use Rattle.affc_rewrite.proofs.Foldings.{few_rows}
 use Rattle.affc_foldprint.proofs.Components.{at_have, moduli_are}
@@ -151,15 +151,15 @@ module _ (source : Program) (folds : List (ArrayId × Fold)) (plain : IsPlain so
   moduli_plain [] h = refl
   moduli_plain (b ∷ bs) h = and_from _ _ (printed_plain first b (h 0 b refl) (omega arith)) (moduli_plain bs (λ j c e. h (suc j) c e))
 
-  decl_plain : (array : ℕ) (d : Decl) → decl_passes is_plain d ≡ true → (o : Option Fold) → fold_of folds array ≡ o → decl_passes is_plain (decl_by o first d) ≡ true
+  decl_plain : (array : ℕ) (d : Decl) → decl_passes is_plain d ≡ true → (o : Option Fold) → fold_at_work source folds array ≡ o → decl_passes is_plain (decl_by o first d) ≡ true
   decl_plain array d h None e = h
   decl_plain array d h (Some fold) e = moduli_plain (forms_of fold.moduli) (moduli_are source folds plain are limits array fold e)
 
-  decls_plain : (array : ℕ) (ds : List Decl) → list_all (decl_passes is_plain) ds ≡ true → list_all (decl_passes is_plain) (decls_from first folds array ds) ≡ true
+  decls_plain : (array : ℕ) (ds : List Decl) → list_all (decl_passes is_plain) ds ≡ true → list_all (decl_passes is_plain) (decls_from first (extent_forms source) folds array ds) ≡ true
   decls_plain array [] h = refl
   decls_plain array (d ∷ ds) h =
       let p = and_parts (decl_passes is_plain d) (list_all (decl_passes is_plain) ds) h in
-      and_from _ _ (decl_plain array d p.0 (fold_of folds array) refl) (decls_plain (suc array) ds p.1)
+      and_from _ _ (decl_plain array d p.0 (fold_at_work source folds array) refl) (decls_plain (suc array) ds p.1)
 
   ids : (body : List Stmt) → all (map (by_stmt passes) body) ≡ list_all (stmt_passes is_plain) body
   ids [] = refl
@@ -216,11 +216,11 @@ decl_few parameters d h (Some fold) =
     let few = few_rows fold in
     le-leb (length (map (printed parameters) (forms_of fold.moduli))) 4 (omega (arith, a, b, c, few))
 
-decls_few : (parameters : ℕ) (folds : List (ArrayId × Fold)) (array : ℕ) (ds : List Decl) → list_all has_few ds ≡ true → list_all has_few (decls_from parameters folds array ds) ≡ true
-decls_few parameters folds array [] h = refl
-decls_few parameters folds array (d ∷ ds) h =
+decls_few : (parameters : ℕ) (extents : List (List Affine)) (folds : List (ArrayId × Fold)) (array : ℕ) (ds : List Decl) → list_all has_few ds ≡ true → list_all has_few (decls_from parameters extents folds array ds) ≡ true
+decls_few parameters extents folds array [] h = refl
+decls_few parameters extents folds array (d ∷ ds) h =
     let p = and_parts (has_few d) (list_all has_few ds) h in
-    and_from _ _ (decl_few parameters d p.0 (fold_of folds array)) (decls_few parameters folds (suc array) ds p.1)
+    and_from _ _ (decl_few parameters d p.0 (at_work extents folds array)) (decls_few parameters extents folds (suc array) ds p.1)
 
 pub folded_fits : (source : Program) (folds : List (ArrayId × Fold)) → program_fits source ≡ true → program_fits (folded_program source folds) ≡ true
 folded_fits source folds h =
@@ -228,5 +228,5 @@ folded_fits source folds h =
     let q = and_parts (list_all param_fits source.params && list_all has_few source.temps) (is_bounded (stmts_behind no_work source.body)) p.1 in
     let r = and_parts (list_all param_fits source.params) (list_all has_few source.temps) q.0 in
     and_from _ _ p.0
-    (and_from _ _ (and_from _ _ r.0 (decls_few (numbers_in source.params) folds (length (arrays_of source.params)) source.temps r.1))
+    (and_from _ _ (and_from _ _ r.0 (decls_few (numbers_in source.params) (extent_forms source) folds (length (arrays_of source.params)) source.temps r.1))
     (ap (λ ws. is_bounded (works.all_behind no_work ws)) (body_work (folded_subscripts source folds) source.body (numbers_in source.params)) ∙ q.1))

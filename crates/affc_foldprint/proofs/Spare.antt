@@ -18,8 +18,8 @@ use Rattle.affc_domain.specs.Plain.{IsPlain, all_of, plain_step}
 use Rattle.affc_domain.specs.Ranges.{number_ranges}
 use Rattle.affc_domain.specs.Rounds.{Round, rounds}
 use Rattle.affc_domain.proofs.Lists.{length_map}
+use Rattle.affc_domain.proofs.RangeLemmas.{numbers_are}
 use Rattle.affc_loops.specs.Laws.{HaveSameLoops}
-use Rattle.affc_loops.proofs.Scheduled.{numbers_are}
 use Rattle.affc_plain.proofs.Programs.{reads_plain}
 use Rattle.affc_wellnamed.specs.declared.shape.Extent.{Extent}
 use Rattle.affc_wellnamed.specs.declared.shape.Shape.{Shape}
@@ -35,10 +35,10 @@ use Rattle.affc_loopprint.proofs.ShapeReads.{ReadParts, reads_parts}
 use Rattle.affc_loopprint.proofs.SpareReads.{reads_spare}
 use Rattle.affc_basis.specs.declared.fold.Fold.{Fold}
 use Rattle.affc_basis.specs.FoldLists.{AreFoldsIn}
-use Rattle.affc_basis.specs.Folds.{forms_of, fold_of}
+use Rattle.affc_basis.specs.Folds.{forms_of}
 use Rattle.affc_foldloops.specs.Refolds.{Subscripts, refold_step, each_under}
 use Rattle.affc_foldloops.proofs.RefoldLemmas.{flat_is, refolded_keeps_shape}
-use Rattle.affc_rewrite.specs.Rewrite.{printed, decl_by, decls_from, folded_temps, folded_subscripts, folded_program, KeepLimits}
+use Rattle.affc_rewrite.specs.Rewrite.{printed, decl_by, decls_from, extent_forms, fold_at_work, folded_temps, folded_subscripts, folded_program, KeepLimits}
 use Rattle.affc_rewrite.specs.Sizes.{IsPrintable}
 use Rattle.affc_rewrite.proofs.Foldings.{few_rows}
 use Rattle.affc_foldprint.specs.Laws.{FoldsSpare}
@@ -93,7 +93,7 @@ module _ (source : Program) (folds : List (ArrayId × Fold)) (plain : IsPlain so
   abbrev other : Program
   other = folded_program source folds
 
-  decl_grows : (array : ℕ) (d : Decl) (o : Option Fold) → fold_of folds array ≡ o → HeadGrows (decl_line (decl_by o first d).extents) (decl_line d.extents)
+  decl_grows : (array : ℕ) (d : Decl) (o : Option Fold) → fold_at_work source folds array ≡ o → HeadGrows (decl_line (decl_by o first d).extents) (decl_line d.extents)
   decl_grows array d None e = head_self (decl_line d.extents)
   decl_grows array d (Some fold) e =
       let a : length (forms_of fold.moduli) ≡ length fold.moduli = length_map (λ m. m.form) fold.moduli in
@@ -104,10 +104,10 @@ module _ (source : Program) (folds : List (ArrayId × Fold)) (plain : IsPlain so
       let f = u.few in let g = u.shallow in
       record { tokens = omega (arith, a, b, rows, low, f); run = omega (arith, a, b, rows, f); depth = omega (arith, g); items = omega arith }
 
-  decls_grow : (array : ℕ) (ds : List Decl) (a b : Shape) → HeadGrows a b → HeadGrows (decls_behind true a (decls_from first folds array ds)) (decls_behind true b ds)
+  decls_grow : (array : ℕ) (ds : List Decl) (a b : Shape) → HeadGrows a b → HeadGrows (decls_behind true a (decls_from first (extent_forms source) folds array ds)) (decls_behind true b ds)
   decls_grow array [] a b h = h
   decls_grow array (d ∷ ds) a b h =
-      decls_grow (suc array) ds (both a (decl_line (decl_by (fold_of folds array) first d).extents)) (both b (decl_line d.extents)) (head_both a b _ _ h (decl_grows array d (fold_of folds array) refl))
+      decls_grow (suc array) ds (both a (decl_line (decl_by (fold_at_work source folds array) first d).extents)) (both b (decl_line d.extents)) (head_both a b _ _ h (decl_grows array d (fold_at_work source folds array) refl))
 
   head_grows : HeadGrows (head_shape other) (head_shape source)
   head_grows = decls_grow (length (arrays_of source.params)) source.temps (head_line true source.params) (head_line true source.params) (head_self (head_line true source.params))

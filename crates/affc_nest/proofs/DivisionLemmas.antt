@@ -12,10 +12,11 @@ use Rattle.affc_ast.specs.declared.tree.Rel.TheVariants.{Less, LessEqual}
 use Rattle.affc_ast.specs.Index.{floor_of}
 use Rattle.affc_trace.proofs.Runs.{length_append}
 use Rattle.affc_domain.proofs.FormLemmas.{number_width}
+use Rattle.affc_domain.proofs.Lists.{length_push}
 use Rattle.affc_nest.specs.Divisions.{multiple, division_rows, held, quotient_range}
 use Rattle.affc_nest.specs.Domains.{compare_rows}
 use Rattle.affc_nest.specs.Laws.{DivisionsAreQuotients, QuotientsKeepRanges}
-use Rattle.affc_nest.proofs.DomainLemmas.{met_append, met_both, rows_say, say_rows, length_push}
+use Rattle.affc_nest.proofs.DomainLemmas.{met_append, met_both, rows_say, say_rows}
 use Rattle.affc_nest.proofs.QuestionLemmas.{widened_is}
 
 -- ---- Quotients

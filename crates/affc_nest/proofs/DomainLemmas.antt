@@ -1,11 +1,12 @@
 -- The rows of a domain hold exactly where the iterators turn.
-use Rattle.std.proofs.Common.{◌≡◌, ℕ, suc, ◌+◌, ℤ, pos, negsuc, ◌+ℤ◌, ◌-ℤ◌, ◌*ℤ◌, ◌≤ℤ◌, ◌<ℤ◌, true, true≢false, IsTrue, List, [], ◌∷◌, ◌++◌, length, get_or, refl, sym, ap, ◌∙◌, subst, arith}
+use Rattle.std.proofs.Common.{◌≡◌, ℕ, suc, ◌+◌, ℤ, pos, negsuc, ◌+ℤ◌, ◌-ℤ◌, ◌*ℤ◌, ◌≤ℤ◌, ◌<ℤ◌, true, true≢false, IsTrue, List, [], ◌∷◌, ◌++◌, length, refl, sym, ap, ◌∙◌, subst, arith}
 use Rattle.std.specs.Prelude.{int_le}
 use Rattle.std.specs.List.{All}
 use Rattle.std.proofs.lemmas.Int.{ints}
 use Rattle.std.proofs.lemmas.List.Elements.{All-nil, All-cons}
 use Rattle.affc_rows.specs.Forms.{Affine, value}
 use Rattle.affc_rows.proofs.ValueLemmas.{value-mixed}
+use Rattle.affc_rows.proofs.VocabularyLemmas.{unit_width}
 use Rattle.affc_system.specs.Systems.{Meets}
 use Rattle.affc_ast.specs.declared.tree.Compare.{Compare}
 use Rattle.affc_ast.specs.declared.tree.Ix.{Ix}
@@ -19,8 +20,8 @@ use Rattle.affc_domain.specs.Affine.{form_of, is_affine}
 use Rattle.affc_domain.specs.Plain.{is_plain, plain_tests, is_upward}
 use Rattle.affc_domain.specs.Rounds.{Round, Loop, Test, goes_on, turns, loops_in}
 use Rattle.affc_domain.proofs.CountLemmas.{turns_long}
-use Rattle.affc_domain.proofs.FormLemmas.{form_width, value_of_form, column_value, unit_width}
-use Rattle.affc_domain.proofs.Lists.{both_true, true_both, le_true, true_le, lt_true, true_lt}
+use Rattle.affc_domain.proofs.FormLemmas.{form_width, value_of_form, column_value}
+use Rattle.affc_domain.proofs.Lists.{both_true, true_both, le_true, true_le, lt_true, true_lt, length_push, at_seam}
 use Rattle.affc_domain.proofs.PlainLemmas.{plain_rounds, is_plain_affine}
 use Rattle.affc_nest.specs.Domains.{gap_row, compare_rows, test_rows, column_form, bounds_of, condition_rows}
 
@@ -184,14 +185,6 @@ says_under LessEqual x high u h = le_true x high h
 says_under Greater x high u h = absurd (true≢false (sym u))
 says_under GreaterEqual x high u h = absurd (true≢false (sym u))
 says_under Equal x high u h = absurd (true≢false (sym u))
-
-pub length_push : (xs : List ℤ) (y : ℤ) → length (xs ++ y ∷ []) ≡ suc (length xs)
-length_push [] y = refl
-length_push (x ∷ xs) y = ap suc (length_push xs y)
-
-pub at_seam : (names : List ℤ) (x : ℤ) (xs : List ℤ) → get_or (names ++ x ∷ xs) (length names) (pos 0) ≡ x
-at_seam [] x xs = refl
-at_seam (n ∷ names) x xs = at_seam names x xs
 
 -- a loop's rows at the iterator x, with xs behind it
 module _ (names : List ℤ) (x : ℤ) (xs : List ℤ) (low : Ix) (rel : Rel) (high : Ix) (f : IsTrue (is_affine low)) (g : IsTrue (is_affine high)) where

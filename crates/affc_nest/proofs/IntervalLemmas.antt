@@ -4,6 +4,7 @@ use Rattle.std.proofs.Common.{to_z, of_z}
 use Rattle.std.proofs.Common.{IsTrue, ◌++◌, if◌then◌else◌}
 use Rattle.std.proofs.lemmas.Bool.{leb-true}
 use Rattle.std.proofs.lemmas.List.Elements.{All-nil, All-cons}
+use Rattle.std.specs.List.{All}
 use Rattle.std.specs.Prelude.{unsigned_abs, nat_abs, int_lt, not, ◌&&◌, FitsSigned}
 use Rattle.std.specs.Int.{w64, w128}
 use Rattle.std.proofs.lemmas.Int.{ints, to_z-of_z, fits_signed_from_abs}
@@ -11,6 +12,7 @@ use Rattle.affc_rows.specs.Forms.{Affine, value, dot, dot_magnitude, magnitude}
 use Rattle.affc_rows.proofs.IntLemmas.{abs-add}
 use Rattle.affc_rows.proofs.SizeLemmas.{Below, dot_abs, dot_below}
 use Rattle.affc_system.specs.Boxes.{IsBox, InBox, IsCorner, corner}
+use Rattle.affc_system.specs.Pairs.{WithinReach}
 use Rattle.affc_system.proofs.BoxLemmas.{corner_in_box, corner_is_corner, value_least, value_greatest}
 use Rattle.affc_ast.specs.declared.tree.Ix.{Ix}
 use Rattle.affc_ast.specs.declared.tree.Rel.{Rel}
@@ -142,6 +144,16 @@ close_range r h =
   where
     wider : {n : ℕ} → n ≤ 2 ^ 31 → n ≤ 2 ^ 32
     wider h = omega arith
+
+pub reach : (r : ℤ × ℤ) → (unsigned_abs r.0 ≤ 2 ^ 32) × (unsigned_abs r.1 ≤ 2 ^ 32) → WithinReach r
+reach r h = record { low = further h.0; high = further h.1 }
+  where
+    further : {n : ℕ} → n ≤ 2 ^ 32 → n ≤ 2 ^ 60
+    further h = omega arith
+
+pub near_reach : (rs : List (ℤ × ℤ)) → NearRanges rs → All WithinReach rs
+near_reach [] h = All-nil WithinReach
+near_reach (r ∷ rs) h = All-cons WithinReach r rs (reach r (h.0, h.1)) (near_reach rs h.2)
 
 near_push : (rs : List (ℤ × ℤ)) (r : ℤ × ℤ) → NearRanges rs → (unsigned_abs r.0 ≤ 2 ^ 32) × (unsigned_abs r.1 ≤ 2 ^ 32) → NearRanges (rs ++ r ∷ [])
 near_push [] r n h = (h.0, h.1, tt)

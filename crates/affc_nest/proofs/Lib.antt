@@ -6,6 +6,7 @@ pub mod QuestionLemmas
 pub mod SmallLemmas
 pub mod WidenLemmas
 pub mod RowLemmas
+pub mod WidthLemmas
 pub mod IntervalLemmas
 pub mod ExampleProofs
 pub mod SiteLemmas

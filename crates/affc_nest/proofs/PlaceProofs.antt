@@ -1,5 +1,5 @@
 -- The places of a plain program, and what the interval rule says of them.
-use Rattle.std.proofs.Common.{◌≡◌, ℕ, suc, ◌+◌, ◌≤◌, ◌^◌, ℤ, true, IsTrue, List, [], ◌∷◌, ◌++◌, length, Option, Some, refl, sym, ap, subst, ◌∙◌, inl, inr, arith}
+use Rattle.std.proofs.Common.{◌≡◌, ℕ, suc, ◌+◌, ◌≤◌, ◌^◌, ℤ, true, IsTrue, List, [], ◌∷◌, ◌++◌, length, Option, Some, None, refl, sym, ap, subst, ◌∙◌, inl, inr, arith}
 use Rattle.std.specs.Prelude.{◌&&◌, int_le, nat_le, nat_abs, nat_lt, unsigned_abs, slice_get}
 use Rattle.std.proofs.lemmas.Bool.{leb-true}
 use Rattle.affc_ast.specs.declared.tree.Compare.{Compare}
@@ -9,16 +9,14 @@ use Rattle.affc_trace.specs.Law.{IsIn}
 use Rattle.affc_domain.specs.Accesses.{accesses_of}
 use Rattle.affc_domain.specs.Loops.{loop_numbers}
 use Rattle.affc_domain.specs.Plain.{IsPlain, is_plain, plain_tests, is_upward, plain_range, plain_ranges}
-use Rattle.affc_domain.specs.Ranges.{Within, is_near, number_ranges, ranges_of, first_wide_of, first_wide}
+use Rattle.affc_domain.specs.Ranges.{Ranges, Within, Never, Wide, is_near, number_ranges, ranges_of, first_wide_of, first_wide}
 use Rattle.affc_domain.specs.Rounds.{Round, Loop, Test, rounds, loops_in, comparisons_in}
 use Rattle.affc_domain.proofs.Lists.{both_true, true_both, length_map}
 use Rattle.affc_domain.proofs.PlainLemmas.{plain_rounds, few_loops, few_comparisons, assignments_are_plain}
 use Rattle.affc_domain.proofs.PlainLemmas as lemma
 use Rattle.affc_nest.specs.declared.nest.Entry.{Entry}
-use Rattle.affc_nest.specs.declared.nest.NestFault.{NestFault}
-use Rattle.affc_nest.specs.declared.nest.NestFault.TheVariants.{Memory}
 use Rattle.affc_nest.specs.declared.sites.Site.{Site}
-use Rattle.affc_nest.specs.Entries.{IsPlainPlace, ArePlainPlaces, entries_at, first_wide_at, FaultSays}
+use Rattle.affc_nest.specs.Entries.{IsPlainPlace, ArePlainPlaces, entries_at, first_there, first_wide_at}
 use Rattle.affc_nest.specs.Frames.{plain_at}
 use Rattle.affc_nest.specs.Nests.{entries_of}
 use Rattle.affc_nest.specs.Sides.{NearRanges}
@@ -92,10 +90,28 @@ plain_places program plain =
     plain_each (length (number_ranges program.params)) (places_of program)
     (λ n rs a e f. assignments_are_plain program plain n rs a (ap (λ rss. slice_get rss n) (sym (rounds_walked program)) ∙ e) (ap (λ as'. slice_get as' n) (sym (assignments_walked program)) ∙ f))
 
--- ---- Faults
+-- ---- Wide loops
 
-pub memory_says : (wide : Option (ℕ × ℕ)) (fault : NestFault) → fault ≡ Memory → FaultSays wide fault
-memory_says wide fault e = subst (FaultSays wide) (sym e) tt
+pub none_wide : (outer boxes : List (ℤ × ℤ)) (statement : ℕ) (rs : List Round) → ranges_of outer rs ≡ Within boxes → None ≡ first_wide_of outer statement (rs ∷ [])
+none_wide outer boxes statement rs e = rw e refl
+
+pub never_wide : (outer : List (ℤ × ℤ)) (statement : ℕ) (rs : List Round) → ranges_of outer rs ≡ Never → None ≡ first_wide_of outer statement (rs ∷ [])
+never_wide outer statement rs e = rw e refl
+
+pub one_wide : (outer : List (ℤ × ℤ)) (statement loop k : ℕ) (rs : List Round) → ranges_of outer rs ≡ Wide k → loop ≡ 0 + k → Some (statement, loop) ≡ first_wide_of outer statement (rs ∷ [])
+one_wide outer statement loop k rs e l = let n : loop ≡ k = omega arith in rw e (ap (λ m. Some (statement, m)) n)
+
+-- that of the first place, if there is one, or else of those behind it
+pub first_wide_there : (outer : List (ℤ × ℤ)) (statement next : ℕ) (p : Place) (ps all : List Place) (first other : Option (ℕ × ℕ)) → all ≡ p ∷ ps → next ≡ statement + 1
+    → first ≡ first_wide_of outer statement (p.around ∷ []) → other ≡ first_wide_at outer next ps → first_there first other ≡ first_wide_at outer statement all
+first_wide_there outer statement next p ps all first other is l e f =
+    let n : next ≡ suc statement = omega arith in
+    ap (λ o. first_there o other) e ∙ ap (first_there (first_wide_of outer statement (p.around ∷ []))) (f ∙ ap (λ m. first_wide_at outer m ps) n) ∙ by (ranges_of outer p.around) refl ∙ ap (first_wide_at outer statement) (sym is)
+  where
+    by : (r : Ranges) → ranges_of outer p.around ≡ r → first_there (first_wide_of outer statement (p.around ∷ [])) (first_wide_at outer (suc statement) ps) ≡ first_wide_at outer statement (p ∷ ps)
+    by (Within boxes) e = rw e refl
+    by Never e = rw e refl
+    by (Wide k) e = rw e refl
 
 -- ---- A walk's sites
 

@@ -3,6 +3,7 @@ use Rattle.std.proofs.Common.{◌≡◌, ℕ, suc, ◌+◌, ℤ, pos, ◌≤ℤ�
 use Rattle.std.specs.Prelude.{◌&&◌, slice_get, int_le, int_lt, not, if◌then◌else◌}
 use Rattle.std.proofs.lemmas.Option.{same_Some}
 use Rattle.affc_rows.specs.Forms.{Affine, value}
+use Rattle.affc_rows.proofs.VocabularyLemmas.{unit_width}
 use Rattle.affc_system.specs.Systems.{Meets}
 use Rattle.affc_system.specs.Boxes.{InBox}
 use Rattle.affc_ast.specs.declared.tree.Compare.{Compare}
@@ -24,13 +25,13 @@ use Rattle.affc_domain.specs.Plain.{is_plain, plain_tests, IsPlain}
 use Rattle.affc_domain.specs.Ranges.{number_ranges, Ranges, Within, Never, Wide, outermost, is_near, range_of, entered, ranges_of, AreWithin}
 use Rattle.affc_domain.specs.Rounds.{Round, Loop, Test, rounds, turns, loops_in}
 use Rattle.affc_domain.proofs.CountLemmas.{turns_long}
-use Rattle.affc_domain.proofs.FormLemmas.{column_value, unit_width, number_value, number_width}
-use Rattle.affc_domain.proofs.Lists.{both_true, true_both, le_true}
+use Rattle.affc_domain.proofs.FormLemmas.{column_value, number_value, number_width}
+use Rattle.affc_domain.proofs.Lists.{both_true, true_both, le_true, length_push, at_seam}
 use Rattle.affc_domain.proofs.PlainLemmas.{is_plain_affine, rounds_are_plain}
 use Rattle.affc_domain.proofs.RangeLemmas.{box_length, in_ranges, context_holds, iterators_keep_ranges}
 use Rattle.affc_domain.proofs.TurnLemmas.{instances_turn}
 use Rattle.affc_nest.specs.Domains.{gap_row, test_rows, bounds_of, column_form, number_form, range_rows, box_rows, loop_rows, condition_rows, domain_rows}
-use Rattle.affc_nest.proofs.DomainLemmas.{Met, met_append, met_both, no_gap_up, no_gap_down, hold_tests, tests_hold, turns_met, met_turns, at_seam, length_push, bound_rows, inner, outer}
+use Rattle.affc_nest.proofs.DomainLemmas.{Met, met_append, met_both, no_gap_up, no_gap_down, hold_tests, tests_hold, turns_met, met_turns, bound_rows, inner, outer}
 
 -- ---- Boxes
 

@@ -2,8 +2,8 @@
 use Rattle.std.proofs.Common.{◌≡◌, ℕ, zero, suc, ◌+◌, ◌<◌, ℤ, pos, negsuc, ◌≤ℤ◌, ◌<ℤ◌, Bool, true, false, IsTrue, List, [], ◌∷◌, ◌++◌, length, get_or, map, flat_map, replicate, Some, refl, sym, ap, subst, ◌∙◌, ◌⊎◌, inl, inr, arith, if◌then◌else◌}
 use Rattle.std.specs.Prelude.{◌&&◌, ◌↔◌, int_le, int_lt, nat_le, slice_get}
 use Rattle.std.proofs.lemmas.Int.{ints}
-use Rattle.std.proofs.lemmas.Option.{none-some, same_Some}
-use Rattle.affc_rows.specs.Forms.{Affine, value, dot, values_of}
+use Rattle.std.proofs.lemmas.Option.{none-some, same_Some, slice_get_within}
+use Rattle.affc_rows.specs.Forms.{Affine, value, values_of}
 use Rattle.affc_system.specs.Systems.{Rows, Meets, IsPoint}
 use Rattle.affc_ast.specs.declared.tree.Decl.{Decl}
 use Rattle.affc_ast.specs.declared.tree.Instance.{Instance}
@@ -27,8 +27,8 @@ use Rattle.affc_domain.specs.Arrays.{declared_arrays, extents_at}
 use Rattle.affc_domain.specs.Plain.{is_plain, all_plain, plain_decls, IsPlain}
 use Rattle.affc_domain.specs.Ranges.{number_ranges}
 use Rattle.affc_domain.specs.Rounds.{loops_in}
-use Rattle.affc_domain.proofs.FormLemmas.{form_width, number_value, number_width}
-use Rattle.affc_domain.proofs.Lists.{both_true, true_both, le_true, true_le, lt_true, true_lt, to_mapped}
+use Rattle.affc_domain.proofs.FormLemmas.{form_width, number_value, number_width, dot_widened}
+use Rattle.affc_domain.proofs.Lists.{both_true, true_both, le_true, true_le, lt_true, true_lt, to_mapped, place_of, stands_in, there_is}
 use Rattle.affc_domain.proofs.PlainLemmas.{is_plain_affine, has_assignment}
 use Rattle.affc_domain.proofs.RangeLemmas.{box_length, in_ranges}
 use Rattle.affc_domain.proofs.TurnLemmas.{instances_turn}
@@ -46,27 +46,6 @@ use Rattle.affc_nest.proofs.EntryLemmas.{SiteOf, site_of, columns_are, entries_s
 use Rattle.affc_nest.proofs.PointLemmas.{at_most, context_met, met_context}
 
 -- ---- Lists
-
--- where a member of a list stands
-pub place_of : {A : Type 0} (xs : List A) (a : A) → IsIn a xs → (k : ℕ) × (slice_get xs k ≡ Some a)
-place_of [] a i = absurd i
-place_of (x ∷ xs) a (inl e) = (0, ap (λ y. Some y) (sym e))
-place_of (x ∷ xs) a (inr i) = let r = place_of xs a i in (suc r.0, r.1)
-
-pub stands_in : {A : Type 0} (xs : List A) (k : ℕ) (a : A) → slice_get xs k ≡ Some a → IsIn a xs
-stands_in [] k a e = absurd (none-some a e)
-stands_in (x ∷ xs) zero a e = inl (sym (same_Some x a e))
-stands_in (x ∷ xs) (suc k) a e = inr (stands_in xs k a e)
-
-pub there_is : {A : Type 0} (xs : List A) (k : ℕ) → k < length xs → (a : A) × (slice_get xs k ≡ Some a)
-there_is [] k h = absurd (omega arith)
-there_is (x ∷ xs) zero h = (x, refl)
-there_is (x ∷ xs) (suc k) h = there_is xs k (omega arith)
-
-pub below_length : {A : Type 0} (xs : List A) (k : ℕ) (a : A) → slice_get xs k ≡ Some a → k < length xs
-below_length [] k a e = absurd (none-some a e)
-below_length (x ∷ xs) zero a e = omega arith
-below_length (x ∷ xs) (suc k) a e = let h = below_length xs k a e in omega arith
 
 pub value_of_entry : (fs : List Affine) (j : ℕ) (f : Affine) (xs : List ℤ) → slice_get fs j ≡ Some f → slice_get (values_of fs xs) j ≡ Some (value f xs)
 value_of_entry [] j f xs e = absurd (none-some f e)
@@ -117,19 +96,8 @@ pub extents_there : (program : Program) (p : List ℤ) (k : ℕ) → IsPlain pro
     → get_or (extents_at (declared_arrays program) p) k [] ≡ values_of (extents_or_none (slice_get (nest_of program).arrays k)) p
 extents_there program p k plain l = ap (λ (xs : List (List ℤ)). get_or xs k []) (sym (extents_are_extents program p plain l)) ∙ values_at (nest_of program).arrays k p
 
-value_widened : (cs xs ys : List ℤ) (n : ℕ) → length cs ≡ length xs → dot (cs ++ replicate n (pos 0)) (xs ++ ys) ≡ dot cs xs
-value_widened [] [] ys n l = zeros n ys
-  where
-    zeros : (n : ℕ) (ys : List ℤ) → dot (replicate n (pos 0)) ys ≡ pos 0
-    zeros zero ys = refl
-    zeros (suc n) [] = refl
-    zeros (suc n) (y ∷ ys) = omega (arith, ints, zeros n ys)
-value_widened [] (x ∷ xs) ys n l = absurd (omega arith)
-value_widened (c ∷ cs) [] ys n l = absurd (omega arith)
-value_widened (c ∷ cs) (x ∷ xs) ys n l = omega (arith, ints, value_widened cs xs ys n (omega arith))
-
 pub widened_is : (f : Affine) (p its : List ℤ) (n : ℕ) → length f.coefs ≡ length p → value (widened n f) (p ++ its) ≡ value f p
-widened_is f p its n l = omega (arith, ints, value_widened f.coefs p its n l)
+widened_is f p its n l = omega (arith, ints, dot_widened f.coefs p its n l)
 
 widened_width : (f : Affine) (m n k : ℕ) → length f.coefs ≡ m → k ≡ m + n → length (widened n f).coefs ≡ k
 widened_width f m n k l e = length_append f.coefs (replicate n (pos 0)) ∙ (let q = number_width n (pos 0) in omega (arith, l, e, q))
@@ -481,7 +449,7 @@ stays_within program has named none_e none_b p inside = record {
   accesses = λ b x i j.
       let t = (instances_turn program p b).0 i in
       let a = has_assignment program b.statement t.0 t.1 in
-      let there = there_is n.entries b.statement (fewer (entries_stand program has).0 (below_length (assignments program) b.statement a.0 a.1)) in
+      let there = there_is n.entries b.statement (fewer (entries_stand program has).0 (slice_get_within (assignments program) b.statement a.0 a.1)) in
       by_entry b x i j there.0 there.1 there.0.alive refl;
 }
   where

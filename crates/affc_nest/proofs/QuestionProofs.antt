@@ -18,7 +18,7 @@ use Rattle.affc_domain.specs.Arrays.{declared_arrays}
 use Rattle.affc_domain.specs.Plain.{is_plain, all_plain, plain_decls}
 use Rattle.affc_domain.specs.Ranges.{Ranges, Within, Never, Wide, number_ranges, ranges_of}
 use Rattle.affc_domain.specs.Rounds.{Round, Loop, Test, loops_in, comparisons_in}
-use Rattle.affc_domain.proofs.Lists.{both_true}
+use Rattle.affc_domain.proofs.Lists.{both_true, place_of, stands_in}
 use Rattle.affc_domain.proofs.PlainLemmas.{assignments_are_plain}
 use Rattle.affc_nest.specs.Asked.{IsNest, IsExtent, IsSubscript, NestsAreAsked, ExtentsAreAsked, SubscriptsAreAsked, EntriesAreAsked}
 use Rattle.affc_nest.specs.declared.nest.Access.{Access}
@@ -35,7 +35,6 @@ use Rattle.affc_nest.specs.Touches.{AllPlain}
 use Rattle.affc_nest.proofs.AccessLemmas.{plain_append}
 use Rattle.affc_nest.proofs.EntryLemmas.{SiteOf, site_of, columns_are, loops_are}
 use Rattle.affc_nest.proofs.PlaceProofs.{near_numbers, plain_place}
-use Rattle.affc_nest.proofs.QuestionLemmas.{place_of, stands_in}
 use Rattle.affc_nest.proofs.RowLemmas.{plain_side, few_box, few_tests, few_loop_rows}
 
 -- ---- Sides
@@ -135,12 +134,12 @@ rows_count ps context (Within boxes) rs few conds loops comparisons = domain_cou
 rows_count ps context Never rs few conds loops comparisons = omega arith
 rows_count ps context (Wide n) rs few conds loops comparisons = domain_count ps context [] rs few conds loops comparisons
 
-record OfProgram (program : Program) (e : Entry) : Type 0 where
-  statement : ℕ
-  site : SiteOf program statement e
-  plain : IsPlainPlace (length (number_ranges program.params)) (record { around = site.its_rounds; loops = site.loops; assignment = site.assignment })
+pub record OfProgram (program : Program) (e : Entry) : Type 0 where
+  pub statement : ℕ
+  pub site : SiteOf program statement e
+  pub plain : IsPlainPlace (length (number_ranges program.params)) (record { around = site.its_rounds; loops = site.loops; assignment = site.assignment })
 
-entry_in : (nest : Nest) (n : IsNest nest) (e : Entry) → IsIn e nest.entries → OfProgram n.program e
+pub entry_in : (nest : Nest) (n : IsNest nest) (e : Entry) → IsIn e nest.entries → OfProgram n.program e
 entry_in nest n e i =
     let k = place_of (nest_of n.program).entries e (subst (λ (y : Nest). IsIn e y.entries) n.is i) in
     let s = site_of n.program k.0 e k.1 in

@@ -1,9 +1,8 @@
 -- Differences of sides keep the limits of rows.
-use Rattle.std.proofs.Common.{◌≡◌, ℕ, suc, ◌+◌, ◌*◌, ◌^◌, ◌≤◌, ℤ, pos, negsuc, IsTrue, List, [], ◌∷◌, ◌++◌, ◌-◌, length, take, drop, get_or, refl, sym, ap, ◌∙◌, subst, arith}
+use Rattle.std.proofs.Common.{◌≡◌, ℕ, suc, ◌+◌, ◌*◌, ◌^◌, ◌≤◌, ℤ, pos, negsuc, IsTrue, List, [], ◌∷◌, ◌++◌, ◌-◌, length, refl, sym, ap, ◌∙◌, subst, arith}
 use Rattle.std.specs.Prelude.{unsigned_abs, nat_le, nat_abs}
 use Rattle.std.specs.List.{All}
 use Rattle.std.proofs.lemmas.Bool.{leb-true}
-use Rattle.std.proofs.lemmas.List.{take_all}
 use Rattle.std.proofs.lemmas.List.Elements.{All-nil, All-cons}
 use Rattle.affc_rows.specs.Forms.{Affine, TooWide, mixed_form_magnitudes}
 use Rattle.affc_rows.proofs.SizeLemmas as within
@@ -132,11 +131,6 @@ few_loop_rows names (r ∷ boxes) (Loop iter low rel high ∷ rs) =
     let d = length_append (bounds_of names low rel high k) (range_rows (names + k) names r ++ loop_rows (suc names) boxes rs) in
     omega arith
 few_loop_rows names boxes (Test conds ∷ rs) = few_loop_rows names boxes rs
-
--- the tail of a slice, as a pattern takes it
-pub tail_is : {A : Type 0} (xs : List A) (d : A) → 1 ≤ length xs → xs ≡ get_or xs 0 d ∷ take (length xs - 1) (drop 1 xs)
-tail_is [] d h = absurd (omega arith)
-tail_is (x ∷ xs) d h = ap (λ zs. x ∷ zs) (sym (take_all (suc (length xs) - 1) xs (omega arith)))
 
 pub loops_last : (s a t u : Rows) (names n m : ℕ) (iter : List ℕ) (low : Ix) (rel : Rel) (high : Ix) (r : ℤ × ℤ) (boxes all : List (ℤ × ℤ)) (rs whole : List Round)
     → whole ≡ Loop iter low rel high ∷ rs → all ≡ r ∷ boxes → s.columns ≡ names + loops_in whole → m ≡ s.columns - names → n ≡ names + 1

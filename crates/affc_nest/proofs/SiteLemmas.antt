@@ -20,7 +20,7 @@ if_is s conds body g = unrolled s (layer.If conds body) (ap out-Stmt g ∙ simp 
 pub block_is : (s : Stmt) (locals : _) (body : List Stmt) → s ≡ c.Block locals body → by_stmt walked_step s ≡ walked_step (layer.Block locals (map (by_stmt walked_step) body))
 block_is s locals body g = unrolled s (layer.Block locals body) (ap out-Stmt g ∙ simp stmt_lemmas)
 
-front : (xs : List Stmt) (i : ℕ) (x : Stmt) → i < length xs → x ≡ get_or xs i x → drop i xs ≡ x ∷ drop (i + 1) xs
+pub front : (xs : List Stmt) (i : ℕ) (x : Stmt) → i < length xs → x ≡ get_or xs i x → drop i xs ≡ x ∷ drop (i + 1) xs
 front xs i x h e = drop-cons xs i x h ∙ ap (λ z. z ∷ drop (suc i) xs) (sym e) ∙ ap (λ n. x ∷ drop n xs) (suc_is i)
   where
     suc_is : (i : ℕ) → suc i ≡ i + 1

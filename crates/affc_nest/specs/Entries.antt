@@ -1,5 +1,5 @@
 -- Assignments as a walk comes to them, and their entries.
-use Rattle.std.specs.Prelude.{◌≡◌, ℕ, ◌+◌, ◌≤◌, ℤ, IsTrue, List, [], ◌∷◌, Option, Some}
+use Rattle.std.specs.Prelude.{◌≡◌, ℕ, ◌+◌, ◌≤◌, ℤ, IsTrue, List, [], ◌∷◌, Option, Some, None}
 use Rattle.affc_ast.specs.declared.tree.Compare.{Compare}
 use Rattle.affc_domain.specs.Accesses.{accesses_of}
 use Rattle.affc_domain.specs.Ranges.{first_wide_of}
@@ -31,6 +31,16 @@ entries_at params context statement ps = entries_of params context statement (al
 
 abbrev pub first_wide_at : (params : List (ℤ × ℤ)) → (statement : ℕ) → List Place → Option (ℕ × ℕ)
 first_wide_at params statement ps = first_wide_of params statement (all_around ps)
+
+-- the loop of this number round the statement of this number, if there is one
+abbrev pub wide_loop : (statement : ℕ) → (loop : Option ℕ) → Option (ℕ × ℕ)
+wide_loop statement None = None
+wide_loop statement (Some loop) = Some (statement, loop)
+
+-- the first of both that is there
+abbrev pub first_there : Option (ℕ × ℕ) → Option (ℕ × ℕ) → Option (ℕ × ℕ)
+first_there None other = other
+first_there (Some first) other = Some first
 
 -- what a fault says, where this is the first loop whose range passes; want of memory says nothing
 abbrev pub FaultSays : Option (ℕ × ℕ) → NestFault → Type 0

@@ -1,9 +1,9 @@
 //! The entries of assignments.
-ghost use Rattle.std.specs.Prelude.{◌≡◌, ◌+◌, ◌≤◌, ◌∷◌, ◌++◌, [], length, map, None, IsTrue, IfOk, IfErr, OnOk};
+ghost use Rattle.std.specs.Prelude.{◌≡◌, ◌+◌, ◌≤◌, ◌∷◌, ◌++◌, [], length, map, IsTrue, IfOk, OnOk};
 ghost use Rattle.affc_domain.specs.Accesses.{accesses_of, own_access};
 ghost use Rattle.affc_domain.specs.Plain.{plain_tests};
 ghost use Rattle.affc_domain.specs.Ranges.{first_wide_of};
-ghost use Rattle.affc_nest.specs.Entries.{ArePlainPlaces, IsPlainPlace, entry_at, entries_at, first_wide_at, FaultSays};
+ghost use Rattle.affc_nest.specs.Entries.{ArePlainPlaces, IsPlainPlace, entry_at, entries_at, wide_loop, first_there, first_wide_at};
 ghost use Rattle.affc_nest.specs.Nests.{access_form, nowhere};
 ghost use Rattle.affc_nest.specs.Sides.{NearRanges};
 ghost use Rattle.affc_nest.specs.Sites.{place, places};
@@ -11,7 +11,7 @@ ghost use Rattle.affc_nest.specs.Touches.{all_touched, AllPlain};
 
 use crate::accesses::{Touch, add_accesses, add_loads};
 use crate::domains::{count_loops, domain};
-use crate::nest::{Entry, NestFault};
+use crate::nest::Entry;
 use crate::ranges::{Fit, fits};
 use crate::sites::Site;
 use affc_ast::tree::Compare;
@@ -97,23 +97,22 @@ fn entry_with(
     })
 }
 
-/// The entry of an assignment, unless the range of a loop round it passes 2^31.
-#[tactic(auto, using(crate::proofs::PlaceProofs::memory_says, crate::proofs::PlaceProofs::near_within))]
+/// The entry of an assignment, and the first loop round it whose range passes 2^31, counted from the outermost, if one does.
+#[tactic(auto, using(crate::proofs::PlaceProofs::near_within, crate::proofs::PlaceProofs::none_wide, crate::proofs::PlaceProofs::never_wide, crate::proofs::PlaceProofs::one_wide))]
 fn entry(
     alloc: Global,
     params: &BoxOf,
     context: &[Compare],
     statement: u32,
     site: &Site<'_>,
-) -> Result<Entry, NestFault>
+) -> Result<(Entry, Option<u32>), AllocError>
     requires few_params { length params.now ≤ 4 }
     requires near_params { NearRanges params.now }
     requires few_conditions { length context.now ≤ 16 }
     requires plain_context { IsTrue (plain_tests (length params.now) context.now) }
     requires plain { IsPlainPlace (length params.now) (place site.now) }
-    ensures value { IfOk result (λ e. e ≡ entry_at params.now context.now statement (place site.now)) }
-    ensures near { OnOk result (first_wide_of params.now statement ((place site.now).around ∷ []) ≡ None) }
-    ensures wide { IfErr result (FaultSays (first_wide_of params.now statement ((place site.now).around ∷ []))) }
+    ensures value { IfOk result (λ e. e.0 ≡ entry_at params.now context.now statement (place site.now)) }
+    ensures wide { IfOk result (λ e. wide_loop statement e.1 ≡ first_wide_of params.now statement ((place site.now).around ∷ [])) }
 {
     let frames = site.frames.as_slice();
     let columns = params.ranges().len() as u32 + count_loops(frames);
@@ -123,22 +122,40 @@ fn entry(
         Fit::Near => {
             let domain = domain(alloc, params, context, &own, frames)?;
             let entry = entry_with(alloc, statement, site, true, columns, domain, own)?;
-            Ok(entry)
+            Ok((entry, None))
         }
         Fit::Missed => {
             let domain = empty_domain(alloc, columns)?;
             let ranges = BoxOf::new(alloc);
             let entry = entry_with(alloc, statement, site, false, columns, domain, ranges)?;
-            Ok(entry)
+            Ok((entry, None))
         }
-        Fit::Far { loop_number } => Err(NestFault::IteratorRange {
-            statement,
-            loop_number,
-        }),
+        Fit::Far { loop_number } => {
+            let ranges = BoxOf::new(alloc);
+            let domain = domain(alloc, params, context, &ranges, frames)?;
+            let entry = entry_with(alloc, statement, site, true, columns, domain, ranges)?;
+            Ok((entry, Some(loop_number)))
+        }
     }
 }
 
-/// Adds the entries of assignments, of which the first has this number.
+/// The loop of this number round this statement, if there is one, or else another.
+fn first_of(
+    statement: u32,
+    loop_number: Option<u32>,
+    other: Option<(u32, u32)>,
+) -> Option<(u32, u32)>
+    ensures { result ≡ first_there (wide_loop statement loop_number) other }
+{
+    match loop_number {
+        Some(loop_number) => Some((statement, loop_number)),
+        None => other,
+    }
+}
+
+/// Adds the entries of assignments, of which the first has this number. The first loop whose range passes 2^31 comes back, if one
+/// does: the number of the assignment, and that of the loop round it.
+#[tactic(auto, using(crate::proofs::PlaceProofs::first_wide_there))]
 pub(crate) fn add_entries(
     alloc: Global,
     params: &BoxOf,
@@ -146,7 +163,7 @@ pub(crate) fn add_entries(
     sites: &[Site<'_>],
     statement: u32,
     out: &mut Items<Entry>,
-) -> Result<(), NestFault>
+) -> Result<Option<(u32, u32)>, AllocError>
     requires few_params { length params.now ≤ 4 }
     requires near_params { NearRanges params.now }
     requires few_conditions { length context.now ≤ 16 }
@@ -154,15 +171,15 @@ pub(crate) fn add_entries(
     requires plain { ArePlainPlaces (length params.now) (places sites.now) }
     requires few { statement + length sites.now ≤ 64 }
     ensures value { OnOk result (out.new ≡ out.old ++ entries_at params.now context.now statement (places sites.now)) }
-    ensures near { OnOk result (first_wide_at params.now statement (places sites.now) ≡ None) }
-    ensures wide { IfErr result (FaultSays (first_wide_at params.now statement (places sites.now))) }
+    ensures wide { IfOk result (λ wide. wide ≡ first_wide_at params.now statement (places sites.now)) }
 {
     match sites {
-        [] => Ok(()),
+        [] => Ok(None),
         [site, rest @ ..] => {
-            let entry = entry(alloc, params, context, statement, site)?;
+            let (entry, loop_number) = entry(alloc, params, context, statement, site)?;
             out.push(entry)?;
-            add_entries(alloc, params, context, rest, statement + 1, out)
+            let other = add_entries(alloc, params, context, rest, statement + 1, out)?;
+            Ok(first_of(statement, loop_number, other))
         }
     }
 }

@@ -74,17 +74,20 @@ pub fn all_sites<'a>(alloc: Global, program: &'a Program) -> Result<Vec<Site<'a>
     Ok(sites)
 }
 
-/// The entries of all assignments.
-fn entries(alloc: Global, params: &BoxOf, program: &Program) -> Result<Items<Entry>, NestFault>
+/// The entries of all assignments, and the first loop whose range passes 2^31, if one does.
+fn entries(
+    alloc: Global,
+    params: &BoxOf,
+    program: &Program,
+) -> Result<(Items<Entry>, Option<(u32, u32)>), AllocError>
     requires plain { IsPlain program.now }
     requires params { params.now ≡ number_ranges program.now.params }
-    ensures value { IfOk result (λ es. es ≡ entries_of params.now program.now.context 0 (rounds program.now) (loop_numbers program.now) (assignments program.now)) }
-    ensures near { OnOk result (first_wide program.now ≡ None) }
-    ensures wide { IfErr result (FaultSays (first_wide program.now)) }
+    ensures value { IfOk result (λ es. es.0 ≡ entries_of params.now program.now.context 0 (rounds program.now) (loop_numbers program.now) (assignments program.now)) }
+    ensures wide { IfOk result (λ es. es.1 ≡ first_wide program.now) }
 {
     let sites = all_sites(alloc, program)?;
     let mut entries = Items::new(alloc);
-    add_entries(
+    let wide = add_entries(
         alloc,
         params,
         program.context.as_slice(),
@@ -92,7 +95,36 @@ fn entries(alloc: Global, params: &BoxOf, program: &Program) -> Result<Items<Ent
         0,
         &mut entries,
     )?;
-    Ok(entries)
+    Ok((entries, wide))
+}
+
+/// A program's nest, and the first loop whose range passes 2^31, if one does.
+#[derive(Drop)]
+pub struct Extracted {
+    pub nest: Nest,
+    /// The number of the first statement with such a loop round it, and of the first such loop, counted from the outermost.
+    pub wide: Option<(u32, u32)>,
+}
+
+/// The nest of a plain program, also where the range of a loop passes 2^31: then a statement in it has the bounds of its domain
+/// without ranges.
+pub fn extract_any(alloc: Global, program: &Program) -> Result<Extracted, AllocError>
+    requires plain { IsPlain program.now }
+    ensures nest { IfOk result (λ e. e.nest ≡ nest_of program.now) }
+    ensures wide { IfOk result (λ e. e.wide ≡ first_wide program.now) }
+{
+    let params = parameters(alloc, program)?;
+    let names = params.ranges().len() as u32;
+    let context = context(alloc, names, program.context.as_slice())?;
+    let arrays = arrays(alloc, names, program)?;
+    let (entries, wide) = entries(alloc, &params, program)?;
+    let nest = Nest {
+        params,
+        context,
+        arrays,
+        entries,
+    };
+    Ok(Extracted { nest, wide })
 }
 
 /// The nest of a plain program, unless the range of a loop passes 2^31.
@@ -102,15 +134,12 @@ pub fn extract(alloc: Global, program: &Program) -> Result<Nest, NestFault>
     ensures near { OnOk result (first_wide program.now ≡ None) }
     ensures wide { IfErr result (FaultSays (first_wide program.now)) }
 {
-    let params = parameters(alloc, program)?;
-    let names = params.ranges().len() as u32;
-    let context = context(alloc, names, program.context.as_slice())?;
-    let arrays = arrays(alloc, names, program)?;
-    let entries = entries(alloc, &params, program)?;
-    Ok(Nest {
-        params,
-        context,
-        arrays,
-        entries,
-    })
+    let Extracted { nest, wide } = extract_any(alloc, program)?;
+    match wide {
+        None => Ok(nest),
+        Some((statement, loop_number)) => Err(NestFault::IteratorRange {
+            statement,
+            loop_number,
+        }),
+    }
 }

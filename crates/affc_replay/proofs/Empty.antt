@@ -3,12 +3,12 @@ use Rattle.std.proofs.Common.{◌≡◌, ℕ, ◌+◌, nat_eq, Bool, true, false
 use Rattle.std.specs.List.{All}
 use Rattle.std.proofs.lemmas.List.Elements.{All-nil, All-cons}
 use Rattle.affc_ast.specs.declared.tree.ArrayId.{ArrayId}
+use Rattle.affc_trace.proofs.LastStores.{map_append}
 use Rattle.affc_basis.specs.declared.fold.Fold.{Fold}
 use Rattle.affc_nest.specs.declared.nest.ArrayInfo.{ArrayInfo}
 use Rattle.affc_flow.specs.Questions.{is_temp}
 use Rattle.affc_replay.specs.Folds.{scalars_from}
 use Rattle.affc_replay.specs.Scalars.{scalar_if, HasScalars}
-use Rattle.affc_replay.proofs.Lists.{map_both}
 
 abbrev number_of : ArrayId × Fold → ℕ
 number_of f = f.0.0
@@ -39,7 +39,7 @@ scalars_more first next as' rest a fold old mid new is n e f h =
     record {
       scalars = own ++ h.scalars;
       are_empty = record {
-        of_arrays = map_both number_of own h.scalars
+        of_arrays = map_append number_of own h.scalars
             ∙ ap (λ ns. ns ++ map number_of h.scalars) (numbers_if t first fold)
             ∙ ap (λ ns. (if t then first ∷ [] else []) ++ ns) h.are_empty.of_arrays
             ∙ ap (λ m. (if t then first ∷ [] else []) ++ scalars_from m rest) n

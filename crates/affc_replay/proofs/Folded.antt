@@ -11,8 +11,9 @@ use Rattle.affc_trace.specs.Law.{IsIn}
 use Rattle.affc_trace.specs.Laws.{IsInContext}
 use Rattle.affc_trace.specs.Orders.{AreDistinct}
 use Rattle.affc_trace.specs.Target.{numbers_in}
-use Rattle.affc_trace.proofs.Members.{to_first, to_second, to_map}
+use Rattle.affc_trace.proofs.Members.{to_first, to_second, to_map, in_map}
 use Rattle.affc_trace.proofs.Once.{in_append}
+use Rattle.affc_trace.proofs.LastStores.{map_append}
 use Rattle.affc_domain.specs.Arrays.{declared_arrays}
 use Rattle.affc_domain.specs.Ranges.{number_ranges}
 use Rattle.affc_basis.specs.declared.fold.Fold.{Fold}
@@ -20,8 +21,10 @@ use Rattle.affc_basis.specs.FoldLists.{AreFoldsIn}
 use Rattle.affc_basis.specs.Folds.{KeepsLimits, Obeys, fold_of, forms_of}
 use Rattle.affc_basis.specs.Moduli.{IsModulus}
 use Rattle.affc_basis.proofs.FoldsFound.{folds_are_found}
+use Rattle.affc_domain.proofs.Lists.{in_all}
 use Rattle.affc_nest.specs.declared.nest.ArrayInfo.{ArrayInfo}
 use Rattle.affc_nest.specs.Nests.{array_of, nest_of}
+use Rattle.affc_sched.proofs.Lists.{all_from}
 use Rattle.affc_flow.specs.Questions.{is_temp, is_temporary_info}
 use Rattle.affc_life.specs.Folding.{IsFoldFor, HasTrueMarks}
 use Rattle.affc_folds.specs.Folding.{IsLeftWhole}
@@ -31,7 +34,7 @@ use Rattle.affc_accept.specs.Layouts.{Dimensions, temporaries_from}
 use Rattle.affc_accept.proofs.Listed.{in_choice, temporary_in}
 use Rattle.affc_replay.specs.Folds.{scalars_from, AreAll, FoldAll}
 use Rattle.affc_replay.specs.Made.{HasOwnTemporaries}
-use Rattle.affc_replay.proofs.Lists.{map_both, of_map, all_from, all_at, all_nil, slice_behind, distinct_both, choice_distinct, choice_map, in_choice_there}
+use Rattle.affc_replay.proofs.Lists.{all_nil, slice_behind, distinct_both, choice_distinct, choice_map, in_choice_there}
 
 abbrev number_of : ArrayId × Fold → ℕ
 number_of f = f.0.0
@@ -89,11 +92,11 @@ distinct_scalars first (a ∷ as') =
     choice_distinct (is_scalar a) first (scalars_from (first + 1) as') (λ i. let h = scalar_in (first + 1) as' first i in not_before first first h.number h.is refl) (distinct_scalars (first + 1) as')
 
 array_at : (first : ℕ) (as' : List ArrayInfo) (n : ℕ) → IsIn n (arrays_from first as') → (d : Dimensions) × IsIn d (temporaries_from first as') × (n ≡ d.0)
-array_at first as' n i = of_map array_in (temporaries_from first as') n i
+array_at first as' n i = in_map array_in (temporaries_from first as') n i
 
 arrays_step : (first : ℕ) (a : ArrayInfo) (as' : List ArrayInfo) → arrays_from first (a ∷ as') ≡ (if is_shaped a then first ∷ [] else []) ++ arrays_from (first + 1) as'
 arrays_step first a as' =
-    map_both array_in (if is_shaped a then (first, length a.extents) ∷ [] else []) (temporaries_from (first + 1) as')
+    map_append array_in (if is_shaped a then (first, length a.extents) ∷ [] else []) (temporaries_from (first + 1) as')
     ∙ ap (λ ns. ns ++ arrays_from (first + 1) as') (choice_map array_in (is_shaped a) (first, length a.extents))
 
 distinct_arrays : (first : ℕ) (as' : List ArrayInfo) → AreDistinct (arrays_from first as')
@@ -184,12 +187,12 @@ module _ (program : Program) (pairs : ℕ → List ℤ → List ℤ → List ℤ
     of_both : (array : ArrayId) (fold : Fold) → IsIn (array, fold) folds → IsFoldFor program pairs array.0 fold
     of_both array fold i = elim (in_append shown all.scalars (array, fold) (subst (IsIn (array, fold)) all.both i)) [
       | inl j ↦ right.each array fold j
-      | inr j ↦ empty_for array fold (subst (IsIn array.0) all.are_scalars.of_arrays (to_map number_of all.scalars (array, fold) j)) (all_at (λ (f : ArrayId × Fold). f.1.basis.rows ≡ []) all.scalars (array, fold) all.are_scalars.empty j)
+      | inr j ↦ empty_for array fold (subst (IsIn array.0) all.are_scalars.of_arrays (to_map number_of all.scalars (array, fold) j)) (in_all (λ (f : ArrayId × Fold). f.1.basis.rows ≡ []) all.scalars (array, fold) all.are_scalars.empty j)
     ]
 
     numbers : map number_of folds ≡ arrays_from 0 (nest_of program).arrays ++ scalars_from 0 (nest_of program).arrays
     numbers =
-        ap (map number_of) all.both ∙ map_both number_of shown all.scalars
+        ap (map number_of) all.both ∙ map_append number_of shown all.scalars
         ∙ ap (λ ns. ns ++ map number_of all.scalars) right.arrays ∙ ap (λ ns. arrays_from 0 (nest_of program).arrays ++ ns) all.are_scalars.of_arrays
 
     in_program : AreFoldsIn program folds
@@ -213,7 +216,7 @@ module _ (program : Program) (pairs : ℕ → List ℤ → List ℤ → List ℤ
           | inl i ↦ to_first (arrays_from 0 arrays) (scalars_from 0 arrays) n (subst (λ m. IsIn m (arrays_from 0 arrays)) (none n) i)
           | inr i ↦ to_second (arrays_from 0 arrays) (scalars_from 0 arrays) n (subst (λ m. IsIn m (scalars_from 0 arrays)) (none n) i)
         ] in
-        let f = of_map number_of folds n (subst (IsIn n) (sym numbers) here) in
+        let f = in_map number_of folds n (subst (IsIn n) (sym numbers) here) in
         let found : fold_of folds n ≡ Some f.0.1 = (folds_are_found program folds n f.0.1 in_program).1 (f.0.0, sym f.2, f.1) in
         none-some f.0.1 (sym w.unfolded ∙ found)
       where

@@ -6,3 +6,4 @@ pub mod Refused
 pub mod Decided
 pub mod Plans
 pub mod Valid
+pub mod Again

@@ -79,7 +79,7 @@ schedules_same o tokens (time at n lines) folds (schedule.Time m ms) schedule.So
 schedules_same o tokens (time at n lines) folds (schedule.Time m ms) (schedule.Time l ns) e f g =
     ap₂ (λ x xs. schedule.Time x xs) (f.0 ∙ sym g.0) (maps_same o n lines (kept o tokens at n lines folds e) ms ns f.1 g.1)
 
-one_schedule : (text : List ℕ) (program : Program) (a b : Plan) → PlanReads text program a → PlanReads text program b → a.schedule ≡ b.schedule
+pub one_schedule : (text : List ℕ) (program : Program) (a b : Plan) → PlanReads text program a → PlanReads text program b → a.schedule ≡ b.schedule
 one_schedule text program a b r s =
     let o = outline program in
     let mine = r.keeps.spells in

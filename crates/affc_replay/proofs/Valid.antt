@@ -55,10 +55,10 @@ empty_basis = record {
 abbrev empty_fold : Fold
 empty_fold = record { basis = empty_basis; moduli = []; one_each = refl }
 
-abbrev scalar_fold : ℕ → ArrayId × Fold
+abbrev pub scalar_fold : ℕ → ArrayId × Fold
 scalar_fold n = (record { 0 = n }, empty_fold)
 
-are_empty : (ns : List ℕ) → AreEmptyFolds ns (map scalar_fold ns)
+pub are_empty : (ns : List ℕ) → AreEmptyFolds ns (map scalar_fold ns)
 are_empty ns = record { of_arrays = same ns; empty = none ns }
   where
     same : (ns : List ℕ) → map (λ (f : ArrayId × Fold). f.0.0) (map scalar_fold ns) ≡ ns
@@ -129,7 +129,7 @@ valid_is_not_refused source schedule certificate (Schedule fault) v says =
     (excludes says.text v.program v.plan fault (no_fault source schedule certificate v fault says.text says.tree says.given says.reads says.answers)
     (subst (λ t. IsFault says.text t fault) (same_tree source schedule certificate v says.tree says.reads) says.answers)))
 valid_is_not_refused source schedule certificate (IteratorRange statement loop) v says =
-    absurd (none-some (statement, loop) (sym v.near ∙ ap first_wide (sym (same_tree source schedule certificate v says.of.tree says.of.reads)) ∙ says.is_fault))
+    absurd (none-some (statement, loop) (sym v.near ∙ ap first_wide (sym (same_tree source schedule certificate v says.0.of.tree says.0.of.reads)) ∙ says.0.is_fault))
 valid_is_not_refused source schedule certificate (Certificate fault) v says = let e = accepts source schedule certificate v (accept.Certificate fault) says in absurd (cc)
 valid_is_not_refused source schedule certificate (Check fault) v says = let e = accepts source schedule certificate v (accept.Check fault) says in absurd (cc)
 valid_is_not_refused source schedule certificate Memory v says = refl

@@ -14,11 +14,11 @@ use Rattle.affc_trace.specs.declared.schedule.Schedule.{Schedule}
 use Rattle.affc_trace.proofs.Members.{to_first, to_second}
 use Rattle.affc_domain.specs.Arrays.{declared_arrays}
 use Rattle.affc_domain.specs.Ranges.{first_wide}
+use Rattle.affc_domain.proofs.Lists.{place_of, stands_in}
 use Rattle.affc_safe.specs.Safe.{LoadsWritten}
 use Rattle.affc_safe.proofs.Accesses.{touches_are_accesses}
 use Rattle.affc_nest.specs.Laws.{HasNest, NamesArrays}
 use Rattle.affc_nest.specs.Nests.{nest_of}
-use Rattle.affc_nest.proofs.QuestionLemmas.{place_of, stands_in}
 use Rattle.affc_bounds.specs.Faults.{StaysWithin}
 use Rattle.affc_quast.specs.Sources.{NameSources}
 use Rattle.affc_quast.specs.Trees.{Tree}

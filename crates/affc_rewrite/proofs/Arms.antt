@@ -1,5 +1,5 @@
 -- Statements of each kind, with folded subscripts, and what is plain of them.
-use Rattle.std.proofs.Common.{◌≡◌, ℕ, suc, ◌+◌, ◌<◌, ◌≤◌, Bool, true, false, ◌||◌, List, [], ◌∷◌, ◌++◌, length, map, drop, get_or, drop-cons, Option, sym, ap, ◌∙◌, arith}
+use Rattle.std.proofs.Common.{◌≡◌, ℕ, suc, ◌+◌, ◌<◌, ◌≤◌, Bool, true, false, ◌||◌, List, [], ◌∷◌, ◌++◌, length, map, drop, get_or, Option, sym, ap, ◌∙◌, arith}
 use Rattle.std.specs.Prelude.{nat_le}
 use Rattle.std.specs.List.{list_any}
 use Rattle.std.proofs.lemmas.Bool.{leb-true}
@@ -18,6 +18,7 @@ use Rattle.affc_trace.proofs.EndedReads.{append_assoc}
 use Rattle.affc_domain.specs.Plain.{all_plain, plain_value}
 use Rattle.affc_domain.proofs.Lists.{both_true}
 use Rattle.affc_foldloops.specs.Refolds.{Subscripts, refold_value, refold_step, each_under}
+use Rattle.affc_nest.proofs.SiteLemmas.{front}
 use Rattle.affc_rewrite.specs.Rewrite.{has_call, some_call, value_call_step, test_calls, stmt_call_step}
 use Rattle.affc_rewrite.specs.declared.subscripts.Folding.{Folding}
 use Rattle.affc_rewrite.specs.Sizes.{IsWalk, all_under, accesses_step}
@@ -87,12 +88,6 @@ module _ (n : ℕ) where
       (leb-true (n + length locals) 16 q.0, q.1)
 
 -- ---- One statement more of a list
-
-front : (xs : List Stmt) (i : ℕ) (x : Stmt) → i < length xs → x ≡ get_or xs i x → drop i xs ≡ x ∷ drop (i + 1) xs
-front xs i x h e = drop-cons xs i x h ∙ ap (λ z. z ∷ drop (suc i) xs) (sym e) ∙ ap (λ n. x ∷ drop n xs) (suc_is i)
-  where
-    suc_is : (i : ℕ) → suc i ≡ i + 1
-    suc_is i = omega arith
 
 pub plain_front : (n i : ℕ) (xs : List Stmt) (x : Stmt) → i < length xs → x ≡ get_or xs i x → all_within n n (drop i xs) ≡ true → (by_stmt accesses_step x n ≡ true) × (all_within n n (drop (i + 1) xs) ≡ true)
 plain_front n i xs x h e p = both_true (by_stmt accesses_step x n) (all_within n n (drop (i + 1) xs)) (ap (all_within n n) (sym (front xs i x h e)) ∙ p)

@@ -13,7 +13,7 @@ use Rattle.affc_basis.specs.declared.fold.Fold.{Fold}
 use Rattle.affc_basis.specs.Examples.{number, with_iterator, onto, fold_at}
 use Rattle.affc_basis.specs.Folds.{KeepsLimits}
 use Rattle.affc_basis.specs.Moduli.{IsModulus}
-use Rattle.affc_rewrite.specs.Examples.{OnesAndUnits, BlurIsFolded, NothingIsFolded, BlurByParameters, BlurByExtents, TemporariesByTheirFolds, OthersKeepSubscripts, TwoDimensions, OneElement, CallsInExpressions, CallsInValues, CallsInStatements, FoldsWithinLimits, SixteenNames, NamesOutOfSight}
+use Rattle.affc_rewrite.specs.Examples.{OnesAndUnits, BlurIsFolded, NothingIsFolded, BlurByParameters, BlurByExtents, UnitRows, OneElementWhole, TemporariesByTheirFolds, OthersKeepSubscripts, TwoDimensions, OneElement, CallsInExpressions, CallsInValues, CallsInStatements, FoldsWithinLimits, SixteenNames, NamesOutOfSight}
 use Rattle.affc_rewrite.proofs.Choices.{own_kept}
 
 pub ones_and_units : OnesAndUnits
@@ -38,6 +38,13 @@ two_dimensions = (refl, refl, refl, refl)
 pub blur_by_extents : BlurByExtents
 unfolding shape-the_row-Ix-0 hidden-the_row-Ix-0 shape-the_row-Val-0 hidden-the_row-Val-0 shape-the_row-Stmt-0 hidden-the_row-Stmt-0 hidden
 blur_by_extents = (refl, refl, refl)
+
+pub unit_rows : UnitRows
+unit_rows = (refl, refl, refl, refl, refl, refl, refl, refl)
+
+pub one_element_whole : OneElementWhole
+unfolding shape-the_row-Ix-0 hidden-the_row-Ix-0 shape-the_row-Val-0 hidden-the_row-Val-0 shape-the_row-Stmt-0 hidden-the_row-Stmt-0 hidden
+one_element_whole = (refl, refl, refl, refl, refl, refl)
 
 pub temporaries_by_their_folds : TemporariesByTheirFolds
 unfolding shape-the_row-Ix-0 hidden-the_row-Ix-0 shape-the_row-Val-0 hidden-the_row-Val-0 shape-the_row-Stmt-0 hidden-the_row-Stmt-0 hidden

@@ -15,7 +15,8 @@ use Rattle.affc_basis.specs.Bases.{AreWithin}
 use Rattle.affc_basis.specs.Folds.{forms_of, fold_of}
 use Rattle.affc_basis.specs.Moduli.{IsModulus, ArePositive}
 use Rattle.affc_foldloops.specs.Refolds.{AreSized, extents_by}
-use Rattle.affc_rewrite.specs.Rewrite.{printed, decl_by, decls_from}
+use Rattle.affc_rewrite.specs.Rewrite.{printed, at_work, decl_by, decls_from}
+use Rattle.affc_rewrite.proofs.WholeFolds.{works}
 use Rattle.affc_rewrite.proofs.PlaceComponents.{modulus_is}
 
 -- the extents are read and at least 1
@@ -43,28 +44,28 @@ module _ (p : List ℤ) (first : ℕ) (at_first : first ≡ length p) (few : len
       least w rest e (inr i) = rest e i
 
   -- the moduli of an array's fold are within their limits and at least 1
-  module _ (folds : List (ArrayId × Fold)) (limits : (array : ℕ) (fold : Fold) → fold_of folds array ≡ Some fold → (j : ℕ) (b : Affine) → slice_get (forms_of fold.moduli) j ≡ Some b → IsModulus (length p) b)
+  module _ (extents : List (List Affine)) (folds : List (ArrayId × Fold)) (limits : (array : ℕ) (fold : Fold) → fold_of folds array ≡ Some fold → (j : ℕ) (b : Affine) → slice_get (forms_of fold.moduli) j ≡ Some b → IsModulus (length p) b)
       (positive : (array : ℕ) (fold : Fold) → fold_of folds array ≡ Some fold → ArePositive p (forms_of fold.moduli)) where
-    decl_sized : (n : ℕ) (d : Decl) → IsSized p d.extents → (o : Option Fold) → fold_of folds n ≡ o → IsSized p (decl_by o first d).extents
+    decl_sized : (n : ℕ) (d : Decl) → IsSized p d.extents → (o : Option Fold) → at_work extents folds n ≡ o → IsSized p (decl_by o first d).extents
     decl_sized n d own None e = own
-    decl_sized n d own (Some fold) e = moduli_sized (forms_of fold.moduli) (limits n fold e) (positive n fold e)
+    decl_sized n d own (Some fold) e = let f = works extents folds n fold e in moduli_sized (forms_of fold.moduli) (limits n fold f) (positive n fold f)
 
-    pub decls_sized : (n : ℕ) (ds : List Decl) → ((d : Decl) → IsIn d ds → IsSized p d.extents) → AreSized (decls_from first folds n ds) p
+    pub decls_sized : (n : ℕ) (ds : List Decl) → ((d : Decl) → IsIn d ds → IsSized p d.extents) → AreSized (decls_from first extents folds n ds) p
     decls_sized n [] own d i = absurd i
-    decls_sized n (c ∷ ds) own d (inl e) = subst (λ (d : Decl). IsSized p d.extents) (sym e) (decl_sized n c (own c (inl refl)) (fold_of folds n) refl)
+    decls_sized n (c ∷ ds) own d (inl e) = subst (λ (d : Decl). IsSized p d.extents) (sym e) (decl_sized n c (own c (inl refl)) (at_work extents folds n) refl)
     decls_sized n (c ∷ ds) own d (inr i) = decls_sized (suc n) ds (λ d j. own d (inr j)) d i
 
-    extents_here : (n : ℕ) (d : Decl) (o : Option Fold) → fold_of folds n ≡ o → map (λ e. whole e p) (decl_by o first d).extents ≡ extents_by o p (map (λ e. whole e p) d.extents)
+    extents_here : (n : ℕ) (d : Decl) (o : Option Fold) → at_work extents folds n ≡ o → map (λ e. whole e p) (decl_by o first d).extents ≡ extents_by o p (map (λ e. whole e p) d.extents)
     extents_here n d None e = refl
-    extents_here n d (Some fold) e = moduli_here (forms_of fold.moduli) (limits n fold e)
+    extents_here n d (Some fold) e = moduli_here (forms_of fold.moduli) (limits n fold (works extents folds n fold e))
 
-    pub decls_extents : (n : ℕ) (ds : List Decl) → ((k : ℕ) → length ds ≤ k → fold_of folds (n + k) ≡ None)
-        → (k : ℕ) → get_or (extents_at (decls_from first folds n ds) p) k [] ≡ extents_by (fold_of folds (n + k)) p (get_or (extents_at ds p) k [])
+    pub decls_extents : (n : ℕ) (ds : List Decl) → ((k : ℕ) → length ds ≤ k → at_work extents folds (n + k) ≡ None)
+        → (k : ℕ) → get_or (extents_at (decls_from first extents folds n ds) p) k [] ≡ extents_by (at_work extents folds (n + k)) p (get_or (extents_at ds p) k [])
     decls_extents n [] none k = sym (ap (λ o. extents_by o p []) (none k (omega arith)))
     decls_extents n (d ∷ ds) none zero =
         let z : n ≡ n + 0 = omega arith in
-        extents_here n d (fold_of folds n) refl ∙ ap (λ m. extents_by (fold_of folds m) p (map (λ e. whole e p) d.extents)) z
+        extents_here n d (at_work extents folds n) refl ∙ ap (λ m. extents_by (at_work extents folds m) p (map (λ e. whole e p) d.extents)) z
     decls_extents n (d ∷ ds) none (suc k) =
         let z : suc n + k ≡ n + suc k = omega arith in
-        decls_extents (suc n) ds (λ j l. let y : suc n + j ≡ n + suc j = omega arith in ap (fold_of folds) y ∙ none (suc j) (omega arith)) k
-        ∙ ap (λ m. extents_by (fold_of folds m) p (get_or (extents_at ds p) k [])) z
+        decls_extents (suc n) ds (λ j l. let y : suc n + j ≡ n + suc j = omega arith in ap (at_work extents folds) y ∙ none (suc j) (omega arith)) k
+        ∙ ap (λ m. extents_by (at_work extents folds m) p (get_or (extents_at ds p) k [])) z

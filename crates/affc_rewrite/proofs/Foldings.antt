@@ -1,9 +1,7 @@
 -- What is known of the folds of a program, of their rows and moduli, and of an access.
-use Rattle.std.proofs.Common.{◌≡◌, ℕ, zero, suc, ◌+◌, ◌-◌, ◌<◌, ◌≤◌, IsTrue, List, [], ◌∷◌, length, take, drop, min, map, Some, refl, sym, ap, subst, ◌∙◌, arith, length-take, length-drop}
-use Rattle.std.specs.Prelude.{slice_get}
+use Rattle.std.proofs.Common.{◌≡◌, ℕ, zero, suc, ◌+◌, ◌-◌, ◌<◌, ◌≤◌, IsTrue, List, [], ◌∷◌, length, take, drop, min, map, refl, sym, ap, subst, ◌∙◌, arith, length-take, length-drop}
 use Rattle.std.specs.List.{All}
 use Rattle.std.proofs.lemmas.List.{take_all}
-use Rattle.std.proofs.lemmas.List.Elements.{All-nil, All-cons}
 use Rattle.affc_rows.specs.Forms.{Affine}
 use Rattle.affc_ast.specs.declared.tree.Ix.{Ix}
 use Rattle.affc_domain.specs.Affine.{form_of}
@@ -13,6 +11,7 @@ use Rattle.affc_basis.specs.declared.fold.Fold.{Fold}
 use Rattle.affc_basis.specs.declared.fold.Modulus.{Modulus}
 use Rattle.affc_basis.specs.Folds.{KeepsLimits, forms_of}
 use Rattle.affc_basis.specs.Moduli.{IsModulus}
+use Rattle.affc_loops.proofs.Sizes.{all_from}
 use Rattle.affc_rewrite.specs.declared.components.Access.{Access}
 use Rattle.affc_rewrite.specs.Sizes.{AllSides, IsRow, IsPrintable, IsAccess}
 use Rattle.affc_rewrite.proofs.Accesses.{sides_of}
@@ -31,10 +30,6 @@ access_fits a subs plain e some few four behind short =
       behind = behind;
       short = short;
     }
-
-all_from : {A : Type 0} (P : A → Type 0) (xs : List A) → ((j : ℕ) (x : A) → slice_get xs j ≡ Some x → P x) → All P xs
-all_from P [] h = All-nil P
-all_from P (y ∷ xs) h = All-cons P y xs (h zero y refl) (all_from P xs (λ j x e. h (suc j) x e))
 
 pub rows_fit : (fold : Fold) (n : ℕ) → n ≡ length fold.basis.rows → All (IsRow n) fold.basis.rows
 rows_fit fold n e = all_from (IsRow n) fold.basis.rows (λ j row f. subst (λ d. IsRow d row) (sym e) (rows_of fold j row f))

@@ -1,9 +1,8 @@
 -- The printed subscripts and extents are those of the folds.
-use Rattle.std.proofs.Common.{◌≡◌, ℕ, zero, suc, ◌+◌, ◌<◌, ◌≤◌, ◌^◌, ℤ, pos, Bool, ◌&&◌, int_le, int_lt, IsTrue, true, true≢false, if◌then◌else◌, List, [], ◌∷◌, ◌++◌, length, get_or, map, Option, Some, None, refl, sym, ap, subst, ◌∙◌, inl, inr, arith}
+use Rattle.std.proofs.Common.{◌≡◌, ℕ, zero, suc, ◌+◌, ◌<◌, ◌≤◌, ◌^◌, ℤ, Bool, IsTrue, true, false, if◌then◌else◌, List, [], ◌∷◌, ◌++◌, length, get_or, map, Option, Some, None, refl, sym, ap, subst, ◌∙◌, arith}
 use Rattle.std.specs.Prelude.{slice_get}
-use Rattle.std.specs.List.{All}
 use Rattle.std.proofs.lemmas.Bool.{eq-eqb}
-use Rattle.std.proofs.lemmas.Option.{none-some, same_Some, slice_get_within}
+use Rattle.std.proofs.lemmas.Option.{none-some, slice_get_within}
 use Rattle.affc_rows.specs.Forms.{Affine, value, values_of}
 use Rattle.affc_ast.specs.declared.tree.ArrayId.{ArrayId}
 use Rattle.affc_ast.specs.declared.tree.Decl.{Decl}
@@ -25,50 +24,32 @@ use Rattle.affc_domain.specs.Affine.{form_of}
 use Rattle.affc_domain.specs.Arrays.{declared_arrays, extents_at}
 use Rattle.affc_domain.specs.Plain.{IsPlain, all_plain, plain_decls}
 use Rattle.affc_domain.specs.Ranges.{first_wide, number_ranges}
-use Rattle.affc_domain.proofs.Lists.{both_true, length_map}
+use Rattle.affc_domain.proofs.Lists.{length_map, in_all}
+use Rattle.affc_domain.proofs.RangeLemmas.{numbers_are}
 use Rattle.affc_safe.specs.Overflow.{AreReadable, NeverOverflows}
 use Rattle.affc_safe.specs.Safe.{IsSafe}
-use Rattle.affc_safe.proofs.FitsThere.{never_stuck_is_safe}
-use Rattle.affc_safe.proofs.PlainNear.{plain_has_no_locals, plain_never_overflows}
+use Rattle.affc_safe.proofs.PlainNear.{plain_never_overflows}
+use Rattle.affc_loops.proofs.Sizes.{all_at}
+use Rattle.affc_foldloops.proofs.FoldedLaws.{within_long, dimensions, safe_at, replaces_at}
 use Rattle.affc_nest.proofs.AccessLemmas.{wholes_here, plain_append}
-use Rattle.affc_loops.proofs.Scheduled.{numbers_are}
 use Rattle.affc_basis.specs.declared.fold.Fold.{Fold}
 use Rattle.affc_basis.specs.Bases.{AreWithin}
-use Rattle.affc_basis.specs.FoldLists.{IsFoldIn, AreFoldsIn}
+use Rattle.affc_basis.specs.FoldLists.{AreFoldsIn}
 use Rattle.affc_basis.specs.Folds.{KeepsLimits, forms_of, fold_of, folded, folded_by, place}
 use Rattle.affc_basis.specs.Moduli.{IsModulus, ArePositive, remainders}
 use Rattle.affc_basis.proofs.FoldsFound.{folds_are_found}
 use Rattle.affc_foldloops.specs.Placed.{Replaces, HasFoldedLoops}
 use Rattle.affc_foldloops.specs.Refolds.{refolded, FoldsBy}
 use Rattle.affc_foldloops.proofs.RefoldLemmas.{refolded_keeps_shape}
-use Rattle.affc_foldloops.proofs.ReplaceLemmas.{accesses_read, behind_extents, fold_in, refolded_replaces}
+use Rattle.affc_foldloops.proofs.ReplaceLemmas.{behind_extents, accesses_read, fold_in}
 use Rattle.affc_rewrite.specs.Laws.{PrintedFolds, FoldedProgramReplaces}
-use Rattle.affc_rewrite.specs.Rewrite.{components_from, subscripts_by, extent_forms, folded_subscripts, folded_temps, has_calls, KeepLimits}
+use Rattle.affc_rewrite.specs.Rewrite.{components_from, is_whole, unless_whole, at_work, subscripts_by, extent_forms, folded_subscripts, folded_temps, has_calls, KeepLimits}
 use Rattle.affc_rewrite.specs.Sizes.{AllSides, IsRow}
 use Rattle.affc_rewrite.proofs.Accesses.{access_touches, sides_of, extents_are, parameters_are, named}
 use Rattle.affc_rewrite.proofs.PlaceComponents.{components_are}
-use Rattle.affc_rewrite.proofs.PrintedForms.{all_at, columns_known}
+use Rattle.affc_rewrite.proofs.PrintedForms.{columns_known}
+use Rattle.affc_rewrite.proofs.WholeFolds.{own_place, own_extents}
 use Rattle.affc_rewrite.proofs.FoldedTemps.{decls_sized, decls_extents}
-
--- ---- Dimensions
-
-within_long : (xs ns : List ℤ) → is_within xs ns ≡ true → length xs ≡ length ns
-within_long [] [] e = refl
-within_long [] (n ∷ ns) e = absurd (true≢false (sym e))
-within_long (x ∷ xs) [] e = absurd (true≢false (sym e))
-within_long (x ∷ xs) (n ∷ ns) e = ap suc (within_long xs ns (both_true (int_le (pos 0) x && int_lt x n) (is_within xs ns) e).1)
-
-its_extents : (es : List Decl) (p : List ℤ) (k : ℕ) (d : Decl) → slice_get es k ≡ Some d → get_or (extents_at es p) k [] ≡ map (λ e. whole e p) d.extents
-its_extents [] p k d e = absurd (none-some d e)
-its_extents (c ∷ es) p zero d e = ap (λ (c : Decl). map (λ e. whole e p) c.extents) (same_Some c d e)
-its_extents (c ∷ es) p (suc k) d e = its_extents es p k d e
-
--- as many rows as the array has dimensions
-dimensions : (source : Program) (p : List ℤ) (array : ℕ) (fold : Fold) → IsFoldIn source array fold → length (get_or (extents_at (declared_arrays source) p) array []) ≡ length fold.basis.rows
-dimensions source p array fold f =
-    ap (λ m. length (get_or (extents_at (declared_arrays source) p) m [])) f.behind
-    ∙ ap length (behind_extents (arrays_of source.params) source.temps p f.number ∙ its_extents source.temps p f.number f.decl f.stands)
-    ∙ length_map (λ e. whole e p) f.decl.extents ∙ sym f.rows
 
 -- ---- Folds
 
@@ -80,11 +61,6 @@ rows_of fold j row e =
       bounded = all_at (λ (f : Affine). AreWithin 256 f.coefs) basis.rows j row basis.row_bounds e;
       no_constant = (basis.identity j (slice_get_within basis.rows j row e)).row row e;
     }
-
-in_all : {A : Type 0} (P : A → Type 0) (xs : List A) (x : A) → All P xs → IsIn x xs → P x
-in_all P [] x h i = absurd i
-in_all P (y ∷ xs) x h (inl e) = subst P (sym e) (h 0 y (omega arith))
-in_all P (y ∷ xs) x h (inr i) = in_all P xs x (λ j z l. h (suc j) z (omega arith)) i
 
 -- ---- The program
 
@@ -106,10 +82,10 @@ module _ (source : Program) (folds : List (ArrayId × Fold)) (p : List ℤ) (pla
       let keeps : KeepsLimits first fold = in_all (λ (f : ArrayId × Fold). KeepsLimits first f.1) folds (found.0, fold) limits found.2 in
       subst (λ n. IsModulus n b) at_first (all_at (IsModulus first) (forms_of fold.moduli) j b keeps f)
 
-  -- the elements of an access, and that its subscripts are read
-  abbrev IsPrinted : (names : List ℤ) → Access → Option Fold → Type 0
-  IsPrinted names x o =
-      let es : List Ix = subscripts_by o first (length names) (get_or (extent_forms source) x.0.0 []) x.1 in
+  -- the elements of an access by the fold at work, and that its subscripts are read
+  abbrev IsPrinted : (names : List ℤ) → Access → (work o : Option Fold) → Type 0
+  IsPrinted names x work o =
+      let es : List Ix = subscripts_by work first (length names) (get_or (extent_forms source) x.0.0 []) x.1 in
       (map (λ e. whole e names) es ≡ folded_by o p (map (λ e. whole e names) x.1)) × AreReadable es names
 
   inside : (b : Instance) (a : Assignment) (x : Access) → IsIn b (trace source p) → slice_get (assignments source) b.statement ≡ Some a → IsIn x (accesses_of a)
@@ -122,7 +98,7 @@ module _ (source : Program) (folds : List (ArrayId × Fold)) (p : List ℤ) (pla
       (subst (λ n. IsTrue (plain_decls n (declared_arrays source))) (sym (numbers_are source.params)) (plain_append (length (number_ranges source.params)) (arrays_of source.params) source.temps plain.arrays plain.temps))
 
   access_printed : (b : Instance) (a : Assignment) (x : Access) → IsIn b (trace source p) → slice_get (assignments source) b.statement ≡ Some a → IsIn x (accesses_of a)
-      → IsPrinted (p ++ b.iterators) x (fold_of folds x.0.0)
+      → IsPrinted (p ++ b.iterators) x (at_work (extent_forms source) folds x.0.0) (fold_of folds x.0.0)
   access_printed b a x i e j = by (fold_of folds x.0.0) refl
     where
       names : List ℤ
@@ -131,7 +107,10 @@ module _ (source : Program) (folds : List (ArrayId × Fold)) (p : List ℤ) (pla
       reads : AreReadable x.1 names
       reads = accesses_read a names (small.assignments b a i e) x j
 
-      by : (o : Option Fold) → fold_of folds x.0.0 ≡ o → IsPrinted names x o
+      extents : List Affine
+      extents = get_or (extent_forms source) x.0.0 []
+
+      by : (o : Option Fold) → fold_of folds x.0.0 ≡ o → IsPrinted names x (unless_whole extents o) o
       by None f = (refl, reads)
       by (Some fold) f =
           let n = named source p b a x plain thin within i e j in
@@ -140,11 +119,19 @@ module _ (source : Program) (folds : List (ArrayId × Fold)) (p : List ℤ) (pla
           let long : length (map (λ e. whole e names) x.1) ≡ length fold.basis.rows =
           within_long (map (λ e. whole e names) x.1) _ here ∙ dimensions source p x.0.0 fold (fold_in source folds are x.0.0 fold f) in
           let known : length (map (λ e. whole e names) x.1) ≡ length x.1 = length_map (λ e. whole e names) x.1 in
-          place_by fold f x.1 n.short n.near n.plain (sym long ∙ known) reads (ap (is_within (map (λ e. whole e names) x.1)) (extents_known x.0.0) ∙ here)
+          let there : is_within (map (λ e. whole e names) x.1) (map (λ f. value f p) extents) ≡ true = ap (is_within (map (λ e. whole e names) x.1)) (extents_known x.0.0) ∙ here in
+          by_whole (is_whole extents fold) refl (sym long) there (place_by fold f x.1 n.short n.near n.plain (sym long ∙ known) reads there)
         where
+          -- an array that is left whole keeps its elements
+          by_whole : (t : Bool) → is_whole extents fold ≡ t → length fold.basis.rows ≡ length (map (λ e. whole e names) x.1) → is_within (map (λ e. whole e names) x.1) (map (λ f. value f p) extents) ≡ true
+              → IsPrinted names x (Some fold) (Some fold) → IsPrinted names x (if t then None else Some fold) (Some fold)
+          by_whole true w long there placed =
+              (own_place p (map (λ e. whole e names) x.1) extents fold (λ j row e. subst (λ n. IsRow n row) long (rows_of fold j row e)) long w there, reads)
+          by_whole false w long there placed = placed
+
           place_by : (fold : Fold) → fold_of folds x.0.0 ≡ Some fold → (subs : List Ix) → length names ≤ 10 → AreWithin (2 ^ 31) names → IsTrue (all_plain (length names) subs)
               → length fold.basis.rows ≡ length subs → AreReadable subs names → is_within (map (λ e. whole e names) subs) (map (λ f. value f p) (get_or (extent_forms source) x.0.0 [])) ≡ true
-              → IsPrinted names (x.0, subs) (Some fold)
+              → IsPrinted names (x.0, subs) (Some fold) (Some fold)
           place_by fold f subs short near plain_subs long reads here =
               let n : ℕ = length names in
               let gs : List Affine = map (form_of n 0) subs in
@@ -163,8 +150,8 @@ module _ (source : Program) (folds : List (ArrayId × Fold)) (p : List ℤ) (pla
               (sym (eq-eqb (length subs) (length fold.basis.rows) (sym long))) (place.0 ∙ ap (remainders p fold.basis.rows (forms_of fold.moduli)) element, place.1)
 
   -- an array whose number is past those of all temporaries has no fold
-  no_further : (k : ℕ) → length source.temps ≤ k → fold_of folds (length (arrays_of source.params) + k) ≡ None
-  no_further k l = by (fold_of folds (length (arrays_of source.params) + k)) refl
+  no_further : (k : ℕ) → length source.temps ≤ k → at_work (extent_forms source) folds (length (arrays_of source.params) + k) ≡ None
+  no_further k l = ap (unless_whole (get_or (extent_forms source) (length (arrays_of source.params) + k) [])) (by (fold_of folds (length (arrays_of source.params) + k)) refl)
     where
       by : (o : Option Fold) → fold_of folds (length (arrays_of source.params) + k) ≡ o → o ≡ None
       by None e = refl
@@ -182,9 +169,12 @@ module _ (source : Program) (folds : List (ArrayId × Fold)) (p : List ℤ) (pla
         places = λ b a x i e j. ap (λ zs. let y : Element = (x.0.0, zs) in y) (access_printed b a x i e j).0;
         reads = λ b a x i e j. (access_printed b a x i e j).1;
         sized =
-            decls_sized p first at_first params.few params.near folds moduli_fit positive (length given) source.temps
+            decls_sized p first at_first params.few params.near (extent_forms source) folds moduli_fit positive (length given) source.temps
             (λ d i. (small.extents d (to_second given source.temps d i), λ e j. safe.extents d e (to_second given source.temps d i) j));
-        extents = decls_extents p first at_first params.few params.near folds moduli_fit positive (length given) source.temps no_further;
+        extents = λ k.
+            decls_extents p first at_first params.few params.near (extent_forms source) folds moduli_fit positive (length given) source.temps no_further k
+            ∙ own_extents p (get_or (extent_forms source) (length given + k) []) (fold_of folds (length given + k)) (get_or (extents_at source.temps p) k [])
+            (sym (extents_known (length given + k) ∙ behind_extents given source.temps p k));
       }
 
 pub printed_folds : PrintedFolds
@@ -199,21 +189,12 @@ entry_too (row ∷ rows) (c ∷ moduli) l zero b e = (row, refl)
 entry_too (row ∷ rows) (c ∷ moduli) l (suc k) b e = entry_too rows moduli (omega arith) k b e
 
 module _ (source : Program) (schedule : Schedule) (folds : List (ArrayId × Fold)) (has : HasFoldedLoops source schedule folds) (limits : KeepLimits source folds) where
-  -- where the program is safe
-  safe_at : (p : List ℤ) → IsInContext source p → IsSafe source p
-  safe_at p inside = never_stuck_is_safe source p (plain_has_no_locals source (has.loops).plain) inside (has.ends p)
-
   folds_at : (p : List ℤ) → IsInContext source p → FoldsBy (folded_subscripts source folds) (folded_temps source folds) source folds p
   folds_at p inside =
-      printed_folds source folds p (has.loops).plain (has.loops).near inside.ranges (safe_at p inside) has.folds_in limits
+      printed_folds source folds p (has.loops).plain (has.loops).near inside.ranges (safe_at source schedule folds has p inside) has.folds_in limits
       (λ array fold e k b f.
       let row = entry_too fold.basis.rows (forms_of fold.moduli) (length_map (λ m. m.form) fold.moduli ∙ fold.one_each) k b f in
       (has.obeys p inside array fold e k row.0 b row.1 f).0)
-
-  replaces_at : (p : List ℤ) → IsInContext source p → Replaces (refolded (folded_subscripts source folds) (folded_temps source folds) source) source (place folds p) p
-  replaces_at p inside =
-      refolded_replaces (folded_subscripts source folds) (folded_temps source folds) source folds p (plain_has_no_locals source (has.loops).plain) inside.ranges
-      (plain_never_overflows source p (has.loops).plain (has.loops).near inside.ranges) (safe_at p inside) has.folds_in (folds_at p inside)
 
 -- no run looks at whether the text has the prelude
 with_prelude : (b : Bool) (other source : Program) (place : Element → Element) (p : List ℤ) → Replaces other source place p → Replaces (record other { prelude = b }) source place p
@@ -233,5 +214,5 @@ folded_program_replaces source schedule folds has limits =
       params = refl;
       context = refl;
       same_rounds = ((refolded_keeps_shape at temps source).same_loops).same_rounds;
-      replaces = λ p inside. with_prelude (has_calls (refolded at temps source)) (refolded at temps source) source (place folds p) p (replaces_at source schedule folds has limits p inside);
+      replaces = λ p inside. with_prelude (has_calls (refolded at temps source)) (refolded at temps source) source (place folds p) p (replaces_at at temps source schedule folds has p inside (folds_at source schedule folds has limits p inside));
     }

@@ -1,5 +1,6 @@
 pub mod Tests
 pub mod PrintedForms
+pub mod WholeFolds
 pub mod PlaceComponents
 pub mod Accesses
 pub mod FoldedTemps
@@ -15,3 +16,4 @@ pub mod SightLemmas
 pub mod Arms
 pub mod ValueArms
 pub mod Whole
+pub mod Works

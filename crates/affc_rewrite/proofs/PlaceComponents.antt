@@ -9,16 +9,17 @@ use Rattle.affc_ast.specs.Fits.{whole}
 use Rattle.affc_ast.specs.Values.{is_within}
 use Rattle.affc_trace.proofs.LastStores.{append_nil, push_append}
 use Rattle.affc_trace.proofs.Runs.{length_append}
-use Rattle.affc_domain.proofs.Lists.{both_true, true_le, true_lt}
+use Rattle.affc_domain.proofs.Lists.{both_true, true_le, true_lt, at_seam}
+use Rattle.affc_domain.proofs.ColumnLemmas.{values_long}
 use Rattle.affc_safe.specs.Overflow.{IsReadable, AreReadable}
-use Rattle.affc_loops.proofs.FormTrees.{get_here}
 use Rattle.affc_basis.specs.Bases.{AreWithin}
 use Rattle.affc_basis.specs.Moduli.{IsModulus, ArePositive, remainders}
 use Rattle.affc_foldloops.proofs.Remainder.{remainder_is_read}
 use Rattle.affc_rewrite.specs.Rewrite.{is_one, is_unit, same_form, printed, component, components_from}
 use Rattle.affc_rewrite.specs.Sizes.{AllSides, IsRow}
-use Rattle.affc_rewrite.proofs.PrintedForms.{printed_is, printed_reads, modulus_below, no_more, row_below, row_value, row_width}
-use Rattle.affc_rewrite.proofs.Tests.{one_value, unit_value, same_value, no_remainder, own_remainder}
+use Rattle.affc_rewrite.proofs.PrintedForms.{printed_is, printed_reads, modulus_below, row_below, row_value, row_width}
+use Rattle.affc_rewrite.proofs.Tests.{one_value, no_remainder}
+use Rattle.affc_rewrite.proofs.WholeFolds.{own_component}
 
 module _ (p : List ℤ) (first : ℕ) (at_first : first ≡ length p) (few : length p ≤ 4) (near_p : AreWithin (2 ^ 24) p) where
   -- a modulus, whatever names stand behind the parameters
@@ -29,10 +30,6 @@ module _ (p : List ℤ) (first : ℕ) (at_first : first ≡ length p) (few : len
         printed_is b p [] after first at_first l ∙ ap (value b) (append_nil p),
         printed_reads b p [] after first at_first l (subst (λ q. magnitude b q < 2 ^ 63) (sym (append_nil p)) (modulus_below b p is few near_p)),
       )
-
-values_long : (gs : List Affine) (xs : List ℤ) → length (values_of gs xs) ≡ length gs
-values_long [] xs = refl
-values_long (g ∷ gs) xs = ap suc (values_long gs xs)
 
 -- Where the parameters and the iterators have these values, and the subscripts of an access have these forms.
 module _ (p iterators : List ℤ) (gs : List Affine) (first : ℕ) (at_first : first ≡ length p) (few : length p ≤ 4) (near_p : AreWithin (2 ^ 24) p) (short : length (p ++ iterators) ≤ 10)
@@ -67,10 +64,7 @@ module _ (p iterators : List ℤ) (gs : List Affine) (first : ℕ) (at_first : f
       by false true e f =
           let both = both_true (is_unit k row) (same_form b extent) f in
           let wide : length row.coefs ≡ length gs = is_row.columns in
-          let same : dot row.coefs element ≡ whole own names =
-          sym (no_more (dot row.coefs element) row.constant is_row.no_constant) ∙ unit_value k row element (wide ∙ sym (values_long gs names)) both.0 ∙ there in
-          let less : whole own names <ℤ value b p = subst (λ n. whole own names <ℤ n) (sym (same_value b extent p both.1)) high in
-          (sym (ap (λ x. int_rem_euclid x (value b p)) same ∙ own_remainder (whole own names) (value b p) low less), reads)
+          (sym (own_component k row b extent p element (whole own names) (wide ∙ sym (values_long gs names)) is_row.no_constant both.0 both.1 there low high), reads)
       by false false e f =
           let r = row_is some row is_row in
           let m = modulus_is p first at_first few near_p b iterators is_modulus in
@@ -99,7 +93,7 @@ module _ (p iterators : List ℤ) (gs : List Affine) (first : ℕ) (at_first : f
       let rest : List ℤ = map (λ e. whole e names) others in
       let t = both_true (int_le (pos 0) x && int_lt x (value extent p)) (is_within rest (map (λ f. value f p) extents)) inside in
       let ends = both_true (int_le (pos 0) x) (int_lt x (value extent p)) t.0 in
-      let there : get_or element k (pos 0) ≡ x = ap (λ xs. get_or xs k (pos 0)) (sym e) ∙ ap (λ j. get_or (before ++ x ∷ rest) j (pos 0)) h ∙ get_here before x rest in
+      let there : get_or element k (pos 0) ≡ x = ap (λ xs. get_or xs k (pos 0)) (sym e) ∙ ap (λ j. get_or (before ++ x ∷ rest) j (pos 0)) h ∙ at_seam before x rest in
       let pushed : length (before ++ x ∷ []) ≡ length before + 1 = length_append before (x ∷ []) in
       let all : length (before ++ x ∷ rest) ≡ length before + suc (length rest) = length_append before (x ∷ rest) in
       let same : length (before ++ x ∷ rest) ≡ length gs = ap length e ∙ values_long gs names in

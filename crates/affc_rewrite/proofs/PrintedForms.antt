@@ -1,13 +1,9 @@
 -- Forms as they are printed have their values, and are read.
-use Rattle.std.proofs.Common.{◌≡◌, ℕ, zero, suc, ◌+◌, ◌*◌, ◌^◌, ◌<◌, ◌≤◌, ℤ, pos, ◌+ℤ◌, ◌*ℤ◌, List, [], ◌∷◌, ◌++◌, length, get_or, Some, sym, ap, subst, ◌∙◌, arith}
-use Rattle.std.specs.Prelude.{unsigned_abs, slice_get}
-use Rattle.std.specs.List.{All}
-use Rattle.std.proofs.lemmas.Int.{ints, unsigned_abs-mul}
+use Rattle.std.proofs.Common.{◌≡◌, ℕ, zero, suc, ◌+◌, ◌*◌, ◌^◌, ◌<◌, ◌≤◌, ℤ, pos, ◌+ℤ◌, List, [], ◌∷◌, ◌++◌, length, get_or, sym, ap, ◌∙◌, arith}
+use Rattle.std.specs.Prelude.{unsigned_abs}
+use Rattle.std.proofs.lemmas.Int.{ints}
 use Rattle.std.proofs.lemmas.List.Elements.{All-nil, All-cons}
-use Rattle.std.proofs.lemmas.Option.{none-some, same_Some}
-use Rattle.std.proofs.Math.Nat.{mul-le-mul_left, mul-le-mul_right}
 use Rattle.affc_rows.specs.Forms.{Affine, dot, dot_magnitude, value, magnitude, HaveColumns, columns_of, column_of, constants_of, values_of, composed, composed_form}
-use Rattle.affc_rows.proofs.IntLemmas.{abs-add}
 use Rattle.affc_rows.proofs.SizeLemmas.{dot_abs, entry_below}
 use Rattle.affc_rows.proofs.FormLemmas.{length-column_of, length-constants_of}
 use Rattle.affc_rows.proofs.ValueLemmas.{length-composed, value-composed}
@@ -16,7 +12,7 @@ use Rattle.affc_trace.proofs.LastStores.{append_nil}
 use Rattle.affc_safe.specs.Overflow.{IsReadable}
 use Rattle.affc_loops.proofs.FormReads.{form_reads}
 use Rattle.affc_loops.proofs.FormTrees.{form_is}
-use Rattle.affc_loops.proofs.Sizes.{many}
+use Rattle.affc_loops.proofs.Sizes.{many, product_below, many_more}
 use Rattle.affc_basis.specs.Bases.{AreWithin}
 use Rattle.affc_basis.specs.Moduli.{IsModulus}
 use Rattle.affc_rewrite.specs.Rewrite.{printed}
@@ -32,17 +28,6 @@ printed_reads f p xs after first e l m = form_reads f p [] xs after first first 
 
 -- ---- Magnitudes
 
-product_below : (a b c d : ℕ) → a ≤ c → b ≤ d → a * b ≤ c * d
-product_below a b c d h k =
-    let p : a * b ≤ a * d = mul-le-mul_left a k in
-    let q : a * d ≤ c * d = mul-le-mul_right d h in
-    omega (arith, p, q)
-
-pub many_more : (m n k : ℕ) → m ≤ n → many m k ≤ many n k
-many_more zero n k h = omega arith
-many_more (suc m) zero k h = absurd (omega arith)
-many_more (suc m) (suc n) k h = let r : many m k ≤ many n k = many_more m n k (omega arith) in omega arith
-
 pub dot_below : (cs xs : List ℤ) (c x : ℕ) → AreWithin c cs → AreWithin x xs → dot_magnitude cs xs ≤ many (length xs) (c * x)
 dot_below [] xs c x h k = omega arith
 dot_below (a ∷ cs) [] c x h k = omega arith
@@ -57,11 +42,6 @@ few_below cs xs c x n h k l =
     let d : dot_magnitude cs xs ≤ many (length xs) (c * x) = dot_below cs xs c x h k in
     let m : many (length xs) (c * x) ≤ many n (c * x) = many_more (length xs) n (c * x) l in
     omega arith
-
-pub all_at : {A : Type 0} (P : A → Type 0) (xs : List A) (j : ℕ) (x : A) → All P xs → slice_get xs j ≡ Some x → P x
-all_at P [] j x a e = absurd (none-some x e)
-all_at P (y ∷ xs) zero x a e = subst P (same_Some y x e) (a 0 y (omega arith))
-all_at P (y ∷ xs) (suc j) x a e = all_at P xs j x (λ i z m. a (suc i) z (omega arith)) e
 
 -- ---- A modulus at the parameters
 

@@ -5,9 +5,9 @@ use Rattle.affc_rows.specs.Forms.{Affine, dot, dot_magnitude, columns_of, column
 use Rattle.affc_rows.proofs.FormLemmas.{length-column_of, length-constants_of}
 use Rattle.affc_basis.specs.Bases.{AreWithin}
 use Rattle.affc_basis.specs.Moduli.{IsModulus}
-use Rattle.affc_loops.proofs.Sizes.{many}
+use Rattle.affc_loops.proofs.Sizes.{many, many_more}
 use Rattle.affc_rewrite.specs.Sizes.{AllSides, IsRow, IsPrintable}
-use Rattle.affc_rewrite.proofs.PrintedForms.{many_more, dot_below, few_below, columns_known, column_within, constants_within, most_coef, composed_within, no_more, row_width}
+use Rattle.affc_rewrite.proofs.PrintedForms.{dot_below, few_below, columns_known, column_within, constants_within, most_coef, composed_within, no_more, row_width}
 
 within_more : (xs : List ℤ) (m n : ℕ) → m ≤ n → AreWithin m xs → AreWithin n xs
 within_more xs m n h w = λ i x l. let k : unsigned_abs (get_or xs i x) ≤ m = w i x l in omega arith

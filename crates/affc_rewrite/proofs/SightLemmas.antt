@@ -23,19 +23,21 @@ use Rattle.affc_domain.specs.Affine.{sees_step, sees, form_of}
 use Rattle.affc_domain.specs.Plain.{is_plain, all_plain, plain_value}
 use Rattle.affc_domain.proofs.FormLemmas.{form_width}
 use Rattle.affc_domain.proofs.Lists.{both_true, true_both}
+use Rattle.affc_domain.proofs.RangeLemmas.{numbers_are}
 use Rattle.affc_loops.specs.Trees.{name_at, times, Term, and_more, sum_of, terms_from}
-use Rattle.affc_loops.proofs.Scheduled.{numbers_are}
 use Rattle.affc_basis.specs.declared.fold.Fold.{Fold}
 use Rattle.affc_basis.specs.FoldLists.{AreFoldsIn}
-use Rattle.affc_basis.specs.Folds.{forms_of, fold_of}
+use Rattle.affc_basis.specs.Folds.{forms_of}
+use Rattle.affc_loops.proofs.Sizes.{all_at}
 use Rattle.affc_foldloops.specs.Refolds.{Subscripts, refold_value, refold_step, each_under}
 use Rattle.affc_foldloops.proofs.RefoldLemmas.{flat_is}
 use Rattle.affc_foldloops.proofs.ReplaceLemmas.{fold_in}
-use Rattle.affc_rewrite.specs.Rewrite.{is_one, is_unit, same_form, printed, component, components_from, subscripts_by, extent_forms, folded_subscripts}
+use Rattle.affc_rewrite.specs.Rewrite.{is_one, is_unit, same_form, printed, component, components_from, at_work, subscripts_by, extent_forms, folded_subscripts}
 use Rattle.affc_rewrite.specs.Sight.{all_see, value_sees_step, value_sees, IsInSight, FoldedInSight}
 use Rattle.affc_rewrite.specs.Sizes.{all_under, accesses_step}
 use Rattle.affc_rewrite.proofs.PlainBodies.{body_plain}
-use Rattle.affc_rewrite.proofs.PrintedForms.{all_at, row_width}
+use Rattle.affc_rewrite.proofs.PrintedForms.{row_width}
+use Rattle.affc_rewrite.proofs.WholeFolds.{works}
 
 -- ---- A form as an expression
 
@@ -138,12 +140,12 @@ module _ (source : Program) (folds : List (ArrayId × Fold)) (are : AreFoldsIn s
   at = folded_subscripts source folds
 
   at_sees : (n : ℕ) (array : ArrayId) (subs : List Ix) → first ≤ n → IsTrue (all_plain n subs) → IsTrue (all_see n (at n array subs))
-  at_sees n array subs l h = by (fold_of folds array.0) refl
+  at_sees n array subs l h = by (at_work (extent_forms source) folds array.0) refl
     where
       extents : List Affine
       extents = get_or (extent_forms source) array.0 []
 
-      by : (o : Option Fold) → fold_of folds array.0 ≡ o → IsTrue (all_see n (subscripts_by o first n extents subs))
+      by : (o : Option Fold) → at_work (extent_forms source) folds array.0 ≡ o → IsTrue (all_see n (subscripts_by o first n extents subs))
       by None e = all_plain_see n subs h
       by (Some fold) e = by_count (nat_eq (length subs) (length fold.basis.rows))
         where
@@ -152,7 +154,7 @@ module _ (source : Program) (folds : List (ArrayId × Fold)) (are : AreFoldsIn s
           by_count true =
               components_see n first (map (form_of n 0) subs) 0 fold.basis.rows (forms_of fold.moduli) extents subs l
               (λ j b f.
-              let w : length b.coefs ≡ first = all_at (λ (g : Affine). length g.coefs ≡ first) (forms_of fold.moduli) j b (fold_in source folds are array.0 fold e).moduli f in
+              let w : length b.coefs ≡ first = all_at (λ (g : Affine). length g.coefs ≡ first) (forms_of fold.moduli) j b (fold_in source folds are array.0 fold (works (extent_forms source) folds array.0 fold e)).moduli f in
               omega arith)
               (λ row. widths n subs row) (all_plain_see n subs h)
 

@@ -14,10 +14,10 @@ use Rattle.affc_domain.specs.Arrays.{declared_arrays}
 use Rattle.affc_domain.specs.Plain.{IsPlain}
 use Rattle.affc_domain.specs.Ranges.{number_ranges}
 use Rattle.affc_domain.proofs.Lists.{length_map}
+use Rattle.affc_domain.proofs.RangeLemmas.{numbers_are}
 use Rattle.affc_nest.specs.declared.nest.ArrayInfo.{ArrayInfo}
 use Rattle.affc_nest.specs.declared.nest.Nest.{Nest}
 use Rattle.affc_nest.specs.Nests.{array_of, nest_of}
-use Rattle.affc_loops.proofs.Scheduled.{numbers_are}
 use Rattle.affc_basis.specs.declared.fold.Fold.{Fold}
 use Rattle.affc_basis.specs.Folds.{KeepsLimits}
 use Rattle.affc_foldloops.specs.Refolds.{Subscripts, refold_step, each_under}
@@ -27,7 +27,7 @@ use Rattle.affc_rewrite.specs.Sizes.{IsWalk, at, all_under, accesses_step}
 use Rattle.affc_rewrite.proofs.PlainBodies.{body_plain}
 
 -- the extents of a nest's arrays
-forms_known : (n m : ℕ) (ds : List Decl) → n ≡ m → map (λ (a : ArrayInfo). a.extents) (map (array_of n) ds) ≡ map (λ (d : Decl). map (form_of m 0) d.extents) ds
+pub forms_known : (n m : ℕ) (ds : List Decl) → n ≡ m → map (λ (a : ArrayInfo). a.extents) (map (array_of n) ds) ≡ map (λ (d : Decl). map (form_of m 0) d.extents) ds
 forms_known n m [] e = refl
 forms_known n m (d ∷ ds) e =
     ap (λ k. map (form_of k 0) d.extents ∷ map (λ (a : ArrayInfo). a.extents) (map (array_of n) ds)) e ∙ ap (λ fs. map (form_of m 0) d.extents ∷ fs) (forms_known n m ds e)
@@ -57,12 +57,15 @@ module _ (program : Program) (nest : Nest) (folds : List (ArrayId × Fold)) (is 
         short = omega (arith, few, e);
       }
 
+  extents_are : (f : Folding) → f.arrays.now ≡ nest.arrays → map (λ (a : ArrayInfo). a.extents) f.arrays.now ≡ extent_forms program
+  extents_are f h =
+      ap (map (λ (a : ArrayInfo). a.extents)) (h ∙ ap (λ (n : Nest). n.arrays) is)
+      ∙ forms_known (length (number_ranges program.params)) (numbers_in program.params) (declared_arrays program) (sym (numbers_are program.params))
+
   at_is : (f : Folding) → f.parameters ≡ length nest.params → f.folds.now ≡ folds → f.arrays.now ≡ nest.arrays → at f ≡ folded_subscripts program folds
   at_is f e g h =
-      let n : ℕ = length (number_ranges program.params) in
       ap (λ p. subscripts_at p (map (λ (a : ArrayInfo). a.extents) f.arrays.now) f.folds.now) (count_is f.parameters e)
-      ∙ ap (λ as'. subscripts_at (numbers_in program.params) (map (λ (a : ArrayInfo). a.extents) as') f.folds.now) (h ∙ ap (λ (n : Nest). n.arrays) is)
-      ∙ ap (λ es. subscripts_at (numbers_in program.params) es f.folds.now) (forms_known n (numbers_in program.params) (declared_arrays program) (sym (numbers_are program.params)))
+      ∙ ap (λ es. subscripts_at (numbers_in program.params) es f.folds.now) (extents_are f h)
       ∙ ap (subscripts_at (numbers_in program.params) (extent_forms program)) g
 
   pub body_is : (f : Folding) (body made : List Stmt) → f.parameters ≡ length nest.params → f.folds.now ≡ folds → f.arrays.now ≡ nest.arrays → body ≡ program.body
@@ -82,8 +85,12 @@ module _ (program : Program) (nest : Nest) (folds : List (ArrayId × Fold)) (is 
   pub enough_arrays : length program.temps ≤ length nest.arrays
   enough_arrays = let all : length nest.arrays ≡ length (arrays_of program.params) + length program.temps = first_temp in omega arith
 
-  pub temps_are : (parameters first : ℕ) → parameters ≡ length nest.params → first ≡ length nest.arrays - length program.temps → decls_from parameters folds first program.temps ≡ folded_temps program folds
-  temps_are parameters first e f =
+  pub temps_are : (f : Folding) (first : ℕ) → f.parameters ≡ length nest.params → f.folds.now ≡ folds → f.arrays.now ≡ nest.arrays → first ≡ length nest.arrays - length program.temps
+      → decls_from f.parameters (map (λ (a : ArrayInfo). a.extents) f.arrays.now) f.folds.now first program.temps ≡ folded_temps program folds
+  temps_are f first e g h d =
       let all : length nest.arrays ≡ length (arrays_of program.params) + length program.temps = first_temp in
       let n : first ≡ length (arrays_of program.params) = omega arith in
-      ap (λ p. decls_from p folds first program.temps) (count_is parameters e) ∙ ap (λ a. decls_from (numbers_in program.params) folds a program.temps) n
+      ap (λ p. decls_from p (map (λ (a : ArrayInfo). a.extents) f.arrays.now) f.folds.now first program.temps) (count_is f.parameters e)
+      ∙ ap (λ es. decls_from (numbers_in program.params) es f.folds.now first program.temps) (extents_are f h)
+      ∙ ap (λ fs. decls_from (numbers_in program.params) (extent_forms program) fs first program.temps) g
+      ∙ ap (λ a. decls_from (numbers_in program.params) (extent_forms program) folds a program.temps) n

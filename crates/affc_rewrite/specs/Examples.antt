@@ -20,7 +20,7 @@ use Rattle.affc_domain.specs.Affine.{form_of}
 use Rattle.affc_basis.specs.declared.fold.Fold.{Fold}
 use Rattle.affc_basis.specs.Examples.{x0, number, one_more, two_more, with_iterator, onto, by_modulus, folds, fold_at, two_rows}
 use Rattle.affc_foldloops.specs.Examples.{lit, temporary, folded_blur}
-use Rattle.affc_rewrite.specs.Rewrite.{is_one, is_unit, same_form, component, components_from, subscripts_by, folded_subscripts, decl_by, folded_temps, has_call, some_call, value_call_step, has_calls, folded_program, KeepLimits}
+use Rattle.affc_rewrite.specs.Rewrite.{is_one, is_unit, same_form, are_units, is_whole, component, components_from, subscripts_by, folded_subscripts, decl_by, folded_temps, has_call, some_call, value_call_step, has_calls, folded_program, KeepLimits}
 use Rattle.affc_rewrite.specs.Sight.{value_sees, IsInSight}
 
 abbrev name : ℕ → Ix
@@ -54,8 +54,7 @@ no_more = record { coefs = pos 1 ∷ []; constant = pos 0 }
 abbrev pub BlurIsFolded : Type 0
 BlurIsFolded = folded_program blur folds ≡ folded_blur
 
--- Without a fold the text is its own. Under the modulus N + 2, which is the extent, it is also but for the extent's form; and
--- neither calls a remainder.
+-- Without a fold the text is its own. Under the modulus N + 2, which is the extent, it is also; and neither calls a remainder.
 abbrev pub NothingIsFolded : Type 0
 NothingIsFolded = (folded_program blur [] ≡ blur) × (folded_program blur (fold_at 2 (by_modulus two_more) ∷ []) ≡ blur)
 
@@ -76,10 +75,41 @@ BlurByExtents =
     × (folded_subscripts blur (fold_at 1 (by_modulus no_more) ∷ []) 2 (record { 0 = 1 }) (name 1 ∷ []) ≡ name 1 ∷ [])
     × (folded_subscripts blur (fold_at 1 (by_modulus two_more) ∷ []) 2 (record { 0 = 1 }) (name 1 ∷ []) ≡ Mod (name 1) (Add (name 0) (lit 2)) ∷ [])
 
--- two temporaries, the arrays 2 and 3, each by its own fold or none; a declaration keeps its name and role
+-- ---- Arrays left whole
+
+-- the unit rows, with the extents as moduli: neither other rows, nor other moduli, nor fewer or more of them
+abbrev pub UnitRows : Type 0
+UnitRows =
+    (are_units 0 two_rows ≡ true)
+    × (are_units 1 two_rows ≡ false)
+    × (are_units 0 (row (pos 1) (pos 0) ∷ row (pos 1) (pos 1) ∷ []) ≡ false)
+    × (are_units 0 [] ≡ true)
+    × (is_whole (two_more ∷ []) (by_modulus two_more) ≡ true)
+    × (is_whole (one_more ∷ []) (by_modulus two_more) ≡ false)
+    × (is_whole [] (by_modulus two_more) ≡ false)
+    × (is_whole (two_more ∷ two_more ∷ []) (by_modulus two_more) ≡ false)
+
+-- two temporaries, the arrays 2 and 3
 abbrev two_temps : Program
 two_temps = record blur { temps = temporary (lit 7 ∷ []) ∷ temporary (lit 8 ∷ []) ∷ [] }
 
+-- One element, t[2 - 1]: by its own extent, the form 1, neither the subscript N - N nor the declaration changes. By the modulus 3, or in an
+-- array of 7 elements by the modulus 1, both are the fold's.
+abbrev one_element : Program
+one_element = record blur { temps = temporary (Sub (lit 2) (lit 1) ∷ []) ∷ [] }
+
+abbrev pub OneElementWhole : Type 0
+OneElementWhole =
+    (folded_subscripts one_element (fold_at 2 (onto 1) ∷ []) 2 (record { 0 = 2 }) (Sub (name 0) (name 0) ∷ []) ≡ Sub (name 0) (name 0) ∷ [])
+    × (folded_temps one_element (fold_at 2 (onto 1) ∷ []) ≡ temporary (Sub (lit 2) (lit 1) ∷ []) ∷ [])
+    × (folded_subscripts one_element (fold_at 2 (onto 3) ∷ []) 2 (record { 0 = 2 }) (Sub (name 0) (name 0) ∷ []) ≡ Mod (lit 0) (lit 3) ∷ [])
+    × (folded_temps one_element (fold_at 2 (onto 3) ∷ []) ≡ temporary (lit 3 ∷ []) ∷ [])
+    × (folded_subscripts two_temps (fold_at 2 (onto 1) ∷ []) 2 (record { 0 = 2 }) (Sub (name 0) (name 0) ∷ []) ≡ lit 0 ∷ [])
+    × (folded_temps two_temps (fold_at 2 (onto 1) ∷ []) ≡ temporary (lit 1 ∷ []) ∷ temporary (lit 8 ∷ []) ∷ [])
+
+-- ---- Temporaries
+
+-- each by its own fold or none; a declaration keeps its name and role
 abbrev pub TemporariesByTheirFolds : Type 0
 TemporariesByTheirFolds =
     (folded_temps two_temps (fold_at 3 (onto 3) ∷ []) ≡ temporary (lit 7 ∷ []) ∷ temporary (lit 3 ∷ []) ∷ [])

@@ -13,7 +13,7 @@ use Rattle.affc_basis.specs.Folds.{forms_of, fold_of}
 use Rattle.affc_basis.specs.Moduli.{ArePositive}
 use Rattle.affc_foldloops.specs.Placed.{HasFoldedLoops, ReplacesFolded}
 use Rattle.affc_foldloops.specs.Refolds.{FoldsBy}
-use Rattle.affc_rewrite.specs.Rewrite.{KeepLimits, folded_subscripts, folded_temps, folded_program}
+use Rattle.affc_rewrite.specs.Rewrite.{KeepLimits, fold_at_work, PrintAlike, folded_subscripts, folded_temps, folded_program}
 
 -- Where a plain source is safe, and the moduli of its folds are within their limits and at least 1, the printed subscripts and
 -- extents are those of the folds: the subscripts are of the places, and whatever is read keeps within `int64_t`.
@@ -27,3 +27,8 @@ PrintedFolds = (source : Program) (folds : List (ArrayId × Fold)) (p : List ℤ
 abbrev pub FoldedProgramReplaces : Type 0
 FoldedProgramReplaces = (source : Program) (schedule : Schedule) (folds : List (ArrayId × Fold))
     → HasFoldedLoops source schedule folds → KeepLimits source folds → ReplacesFolded (folded_program source folds) source folds
+
+-- What is printed rests on the rows and moduli of the folds that are at work, and on nothing else of them.
+abbrev pub PrintedByWork : Type 0
+PrintedByWork = (source : Program) (folds others : List (ArrayId × Fold))
+    → ((array : ℕ) → PrintAlike (fold_at_work source folds array) (fold_at_work source others array)) → folded_program source folds ≡ folded_program source others

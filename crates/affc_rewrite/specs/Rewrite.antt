@@ -1,6 +1,6 @@
 -- The source as it is printed with folds: the subscripts of a folded array are the components of places, and its extents are
--- the moduli.
-use Rattle.std.specs.Prelude.{ℕ, suc, pos, nat_eq, Bool, true, false, ◌&&◌, ◌||◌, if◌then◌else◌, List, [], ◌∷◌, length, get_or, map, Option, Some, None}
+-- the moduli. An array that its fold leaves whole keeps both as they are.
+use Rattle.std.specs.Prelude.{◌≡◌, ℕ, suc, ◌+◌, pos, nat_eq, Bool, true, false, ◌&&◌, ◌||◌, if◌then◌else◌, List, [], ◌∷◌, length, get_or, map, Option, Some, None}
 use Rattle.std.specs.Cmp.Lexicographic.{pointwise}
 use Rattle.std.specs.List.{All, list_any}
 use Rattle.std.specs.Ordering.{int_eq}
@@ -58,7 +58,27 @@ components_from parameters subscripts k (row ∷ rows) (b ∷ moduli) (extent �
     component parameters subscripts k row b extent e ∷ components_from parameters subscripts (suc k) rows moduli extents own
 components_from parameters subscripts k _ _ _ _ = []
 
--- An array without a fold keeps its subscripts; so does an access that has another number of subscripts than the fold has rows.
+-- ---- Folds at work
+
+-- the unit rows, from the k-th on
+abbrev pub are_units : (k : ℕ) → List Affine → Bool
+are_units k [] = true
+are_units k (row ∷ rows) = is_unit k row && are_units (k + 1) rows
+
+-- whether a fold leaves an array of these extents whole: the identity, with the extents as moduli
+abbrev pub is_whole : (extents : List Affine) → Fold → Bool
+is_whole extents fold = pointwise same_form (forms_of fold.moduli) extents && are_units 0 fold.basis.rows
+
+-- no fold is at work where it leaves the array whole
+abbrev pub unless_whole : (extents : List Affine) → Option Fold → Option Fold
+unless_whole extents None = None
+unless_whole extents (Some fold) = if is_whole extents fold then None else Some fold
+
+-- the fold that is at work on an array, where the arrays have these extents
+abbrev pub at_work : (extents : List (List Affine)) → List (ArrayId × Fold) → (array : ℕ) → Option Fold
+at_work extents folds array = unless_whole (get_or extents array []) (fold_of folds array)
+
+-- An array without a fold at work keeps its subscripts; so does an access that has another number of subscripts than the fold has rows.
 abbrev pub subscripts_by : Option Fold → (parameters names : ℕ) → (extents : List Affine) → List Ix → List Ix
 subscripts_by None parameters names extents subs = subs
 subscripts_by (Some fold) parameters names extents subs =
@@ -66,13 +86,17 @@ subscripts_by (Some fold) parameters names extents subs =
 
 -- where the arrays have these extents
 abbrev pub subscripts_at : (parameters : ℕ) → (extents : List (List Affine)) → List (ArrayId × Fold) → Subscripts
-subscripts_at parameters extents folds names array subs = subscripts_by (fold_of folds array.0) parameters names (get_or extents array.0 []) subs
+subscripts_at parameters extents folds names array subs = subscripts_by (at_work extents folds array.0) parameters names (get_or extents array.0 []) subs
 
 -- ---- The whole program
 
 -- the extents of the declared arrays, as forms over the parameters
 abbrev pub extent_forms : Program → List (List Affine)
 extent_forms program = map (λ d. map (form_of (numbers_in program.params) 0) d.extents) (declared_arrays program)
+
+-- the fold that is at work on an array of the program
+abbrev pub fold_at_work : Program → List (ArrayId × Fold) → (array : ℕ) → Option Fold
+fold_at_work program folds array = at_work (extent_forms program) folds array
 
 abbrev pub folded_subscripts : Program → List (ArrayId × Fold) → Subscripts
 folded_subscripts program folds = subscripts_at (numbers_in program.params) (extent_forms program) folds
@@ -81,13 +105,13 @@ abbrev pub decl_by : Option Fold → (parameters : ℕ) → Decl → Decl
 decl_by None parameters d = d
 decl_by (Some fold) parameters d = record d { extents = map (printed parameters) (forms_of fold.moduli) }
 
--- temporaries, of which the first is this array
-abbrev pub decls_from : (parameters : ℕ) → List (ArrayId × Fold) → (array : ℕ) → List Decl → List Decl
-decls_from parameters folds array [] = []
-decls_from parameters folds array (d ∷ ds) = decl_by (fold_of folds array) parameters d ∷ decls_from parameters folds (suc array) ds
+-- temporaries, of which the first is this array, where the arrays have these extents
+abbrev pub decls_from : (parameters : ℕ) → (extents : List (List Affine)) → List (ArrayId × Fold) → (array : ℕ) → List Decl → List Decl
+decls_from parameters extents folds array [] = []
+decls_from parameters extents folds array (d ∷ ds) = decl_by (at_work extents folds array) parameters d ∷ decls_from parameters extents folds (suc array) ds
 
 abbrev pub folded_temps : Program → List (ArrayId × Fold) → List Decl
-folded_temps program folds = decls_from (numbers_in program.params) folds (length (arrays_of program.params)) program.temps
+folded_temps program folds = decls_from (numbers_in program.params) (extent_forms program) folds (length (arrays_of program.params)) program.temps
 
 -- whether an expression calls one of the functions of the prelude
 abbrev pub call_step : Ix-F Bool → Bool
@@ -135,6 +159,13 @@ abbrev pub folded_program : Program → List (ArrayId × Fold) → Program
 folded_program program folds =
     let other = refolded (folded_subscripts program folds) (folded_temps program folds) program in
     record other { prelude = has_calls other }
+
+-- the same rows and moduli, or no fold
+abbrev pub PrintAlike : Option Fold → Option Fold → Type 0
+PrintAlike None None = Unit {0}
+PrintAlike None (Some g) = ⊥
+PrintAlike (Some f) None = ⊥
+PrintAlike (Some f) (Some g) = (f.basis.rows ≡ g.basis.rows) × (forms_of f.moduli ≡ forms_of g.moduli)
 
 -- ---- Limits
 

@@ -26,7 +26,7 @@ pub(crate) struct Access<'a> {
 }
 
 /// Whether two forms are the same.
-fn same(f: &Form, g: &Form) -> bool
+pub(crate) fn same(f: &Form, g: &Form) -> bool
     ensures { result ≡ specs.same_form f.now g.now }
 {
     f.constant == g.constant && f.coefs.as_slice() == g.coefs.as_slice()
@@ -49,7 +49,12 @@ fn is_one(f: &Form) -> bool
 }
 
 /// Whether a row over so many dimensions is the `k`-th unit row.
-fn is_unit(alloc: Global, dimensions: u32, k: u32, row: &Form) -> Result<bool, AllocError>
+pub(crate) fn is_unit(
+    alloc: Global,
+    dimensions: u32,
+    k: u32,
+    row: &Form,
+) -> Result<bool, AllocError>
     requires { length row.now.coefs ≡ dimensions }
     ensures { IfOk result (λ b. b ≡ specs.is_unit k row.now) }
 {

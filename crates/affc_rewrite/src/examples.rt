@@ -1,5 +1,5 @@
 //! What the definitions give at small programs, as laws: `specs/Examples.antt` says each.
-ghost use Rattle.affc_rewrite.specs.Examples.{OnesAndUnits, BlurIsFolded, NothingIsFolded, BlurByParameters, BlurByExtents, TemporariesByTheirFolds, OthersKeepSubscripts, TwoDimensions, OneElement, CallsInExpressions, CallsInValues, CallsInStatements, FoldsWithinLimits, SixteenNames, NamesOutOfSight};
+ghost use Rattle.affc_rewrite.specs.Examples.{OnesAndUnits, BlurIsFolded, NothingIsFolded, BlurByParameters, BlurByExtents, UnitRows, OneElementWhole, TemporariesByTheirFolds, OthersKeepSubscripts, TwoDimensions, OneElement, CallsInExpressions, CallsInValues, CallsInStatements, FoldsWithinLimits, SixteenNames, NamesOutOfSight};
 
 /// The constant 1, unit rows, and forms that are alike.
 pub fn forms()
@@ -12,6 +12,12 @@ pub fn blur()
     ensures nothing_is_folded { NothingIsFolded }
     ensures by_parameters { BlurByParameters }
     ensures by_extents { BlurByExtents }
+{}
+
+/// Arrays that are left whole.
+pub fn whole_arrays()
+    ensures unit_rows { UnitRows }
+    ensures one_element { OneElementWhole }
 {}
 
 /// Temporaries, and folds within their limits.

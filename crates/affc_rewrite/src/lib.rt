@@ -6,6 +6,7 @@ mod components;
 pub mod examples;
 mod forms;
 pub mod laws;
+mod left_whole;
 mod rewriting;
 mod statements;
 mod subscripts;

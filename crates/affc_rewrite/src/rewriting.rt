@@ -59,7 +59,7 @@ fn body(
 }
 
 /// The temporaries with their moduli for extents.
-#[tactic(auto, using(crate::proofs::Whole::few_numbers, crate::proofs::Whole::limits_there, crate::proofs::Whole::temps_are, crate::proofs::Whole::enough_arrays))]
+#[tactic(auto, using(crate::proofs::Whole::few_numbers, crate::proofs::Whole::enough_arrays))]
 fn temporaries(
     alloc: Global,
     program: &Program,
@@ -72,9 +72,14 @@ fn temporaries(
     ensures { IfOk result (λ ds. ds ≡ specs.folded_temps program.now folds.now) }
 {
     let parameters = count(nest);
+    let folding = Folding {
+        parameters,
+        arrays: nest.arrays.as_slice(),
+        folds,
+    };
     let first = first_temporary(program, nest);
     let temps = program.temps.as_slice();
-    add_decls(alloc, parameters, folds, first, temps, Items::new(alloc))
+    add_decls(alloc, &folding, first, temps, Items::new(alloc))
 }
 
 /// The program with the subscripts and extents of folds, as it is printed: it has the prelude exactly where a statement calls

@@ -11,6 +11,7 @@ ghost use Rattle.affc_rewrite.specs.Sizes.{IsFolding, at};
 
 use crate::components::{Access, add_components};
 use crate::forms::forms;
+use crate::left_whole::is_whole;
 use affc_ast::Items;
 use affc_ast::copies::all as copies;
 use affc_ast::tree::{ArrayId, Ix};
@@ -84,6 +85,29 @@ fn by_fold(
     }
 }
 
+/// The subscripts of an array with a fold, which may leave it whole.
+fn by_work(
+    alloc: Global,
+    parameters: u32,
+    names: u32,
+    fold: &Fold,
+    extents: &[Form],
+    subs: &[Ix],
+) -> Result<Items<Ix>, AllocError>
+    requires limits { KeepsLimits parameters fold.now }
+    requires few { parameters ≤ 4 }
+    requires behind { parameters ≤ names }
+    requires short { names ≤ 16 }
+    requires plain { IsTrue (all_plain names subs.now) }
+    ensures { IfOk result (λ x. x ≡ specs.subscripts_by (specs.unless_whole extents.now (Some fold.now)) parameters names extents.now subs.now) }
+{
+    if is_whole(alloc, extents, fold)? {
+        copies(alloc, subs)
+    } else {
+        by_fold(alloc, parameters, names, fold, extents, subs)
+    }
+}
+
 /// The subscripts of an array, by these folds.
 fn by_folds(
     alloc: Global,
@@ -99,13 +123,13 @@ fn by_folds(
     requires behind { parameters ≤ names }
     requires short { names ≤ 16 }
     requires plain { IsTrue (all_plain names subs.now) }
-    ensures { IfOk result (λ x. x ≡ specs.subscripts_by (fold_of folds.now array.0) parameters names extents.now subs.now) }
+    ensures { IfOk result (λ x. x ≡ specs.subscripts_by (specs.unless_whole extents.now (fold_of folds.now array.0)) parameters names extents.now subs.now) }
 {
     match folds {
         [] => copies(alloc, subs),
         [(folded, fold), rest @ ..] => {
             if folded.0 == array.0 {
-                by_fold(alloc, parameters, names, fold, extents, subs)
+                by_work(alloc, parameters, names, fold, extents, subs)
             } else {
                 by_folds(alloc, parameters, names, rest, array, extents, subs)
             }
@@ -114,10 +138,10 @@ fn by_folds(
 }
 
 /// The extents of an array; of one that isn't declared none.
-fn extents_of<'a>(arrays: &'a [ArrayInfo], array: ArrayId) -> &'a [Form]
-    ensures { result.now ≡ get_or (map (λ a. a.extents) arrays.now) array.0 [] }
+pub(crate) fn extents_of<'a>(arrays: &'a [ArrayInfo], array: usize) -> &'a [Form]
+    ensures { result.now ≡ get_or (map (λ a. a.extents) arrays.now) array [] }
 {
-    match arrays.get(array.0 as usize) {
+    match arrays.get(array) {
         Some(info) => info.extents.as_slice(),
         None => &[],
     }
@@ -137,7 +161,7 @@ pub(crate) fn subscripts(
     requires plain { IsTrue (all_plain names subs.now) }
     ensures { IfOk result (λ x. x ≡ at folding.now names array subs.now) }
 {
-    let extents = extents_of(folding.arrays, array);
+    let extents = extents_of(folding.arrays, array.0 as usize);
     by_folds(
         alloc,
         folding.parameters,

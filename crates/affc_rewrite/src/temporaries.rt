@@ -5,13 +5,16 @@ ghost use Rattle.affc_ast.specs.declared.tree.ArrayId.{ArrayId};
 ghost use Rattle.affc_basis.specs.declared.fold.Fold.{Fold};
 ghost use Rattle.affc_basis.specs.Folds.{KeepsLimits, forms_of, fold_of};
 ghost use Rattle.affc_rewrite.specs.Rewrite as specs;
-ghost use Rattle.affc_rewrite.specs.Sizes.{IsPrintable};
+ghost use Rattle.affc_rewrite.specs.Sizes.{IsPrintable, IsFolding};
 
 use crate::components::printed;
+use crate::left_whole::is_whole;
+use crate::subscripts::{Folding, extents_of};
 use affc_ast::Items;
 use affc_ast::text::Text;
 use affc_ast::tree::{ArrayId, Decl, Ix};
 use affc_basis::{Fold, Modulus};
+use affc_rows::Form;
 use std::alloc::{AllocError, Global};
 
 /// Adds the moduli as expressions.
@@ -51,25 +54,45 @@ fn with_moduli(alloc: Global, parameters: u32, fold: &Fold, decl: &Decl) -> Resu
     })
 }
 
-/// The temporary with this number, by these folds.
+/// The temporary with these extents and a fold, which may leave it whole.
+fn decl_at_work(
+    alloc: Global,
+    parameters: u32,
+    fold: &Fold,
+    extents: &[Form],
+    decl: &Decl,
+) -> Result<Decl, AllocError>
+    requires limits { KeepsLimits parameters fold.now }
+    requires few { parameters ≤ 4 }
+    ensures { IfOk result (λ d. d ≡ specs.decl_by (specs.unless_whole extents.now (Some fold.now)) parameters decl.now) }
+{
+    if is_whole(alloc, extents, fold)? {
+        decl.to_owned(alloc)
+    } else {
+        with_moduli(alloc, parameters, fold, decl)
+    }
+}
+
+/// The temporary with this number and these extents, by these folds.
 fn decl_by(
     alloc: Global,
     parameters: u32,
     folds: &[(ArrayId, Fold)],
     array: usize,
+    extents: &[Form],
     decl: &Decl,
 ) -> Result<Decl, AllocError>
     requires limits { All (λ (g : ArrayId × Fold). KeepsLimits parameters g.1) folds.now }
     requires few { parameters ≤ 4 }
-    ensures { IfOk result (λ d. d ≡ specs.decl_by (fold_of folds.now array) parameters decl.now) }
+    ensures { IfOk result (λ d. d ≡ specs.decl_by (specs.unless_whole extents.now (fold_of folds.now array)) parameters decl.now) }
 {
     match folds {
         [] => decl.to_owned(alloc),
         [(folded, fold), rest @ ..] => {
             if folded.0 as usize == array {
-                with_moduli(alloc, parameters, fold, decl)
+                decl_at_work(alloc, parameters, fold, extents, decl)
             } else {
-                decl_by(alloc, parameters, rest, array, decl)
+                decl_by(alloc, parameters, rest, array, extents, decl)
             }
         }
     }
@@ -79,23 +102,29 @@ fn decl_by(
 #[tactic(auto, using(crate::proofs::Steps::one_more_decl))]
 pub(crate) fn add_decls(
     alloc: Global,
-    parameters: u32,
-    folds: &[(ArrayId, Fold)],
+    folding: &Folding<'_>,
     array: usize,
     decls: &[Decl],
     made: Items<Decl>,
 ) -> Result<Items<Decl>, AllocError>
-    requires limits { All (λ (g : ArrayId × Fold). KeepsLimits parameters g.1) folds.now }
-    requires few { parameters ≤ 4 }
+    requires folding { IsFolding folding.now }
     requires numbers { array + length decls.now < 2 ^ 64 }
-    ensures { IfOk result (λ x. x ≡ made ++ specs.decls_from parameters folds.now array decls.now) }
+    ensures { IfOk result (λ x. x ≡ made ++ specs.decls_from folding.now.parameters (map (λ a. a.extents) folding.now.arrays.now) folding.now.folds.now array decls.now) }
 {
     let mut made = made;
     match decls {
         [] => Ok(made),
         [decl, rest @ ..] => {
-            made.push(decl_by(alloc, parameters, folds, array, decl)?)?;
-            add_decls(alloc, parameters, folds, array + 1, rest, made)
+            let extents = extents_of(folding.arrays, array);
+            made.push(decl_by(
+                alloc,
+                folding.parameters,
+                folding.folds,
+                array,
+                extents,
+                decl,
+            )?)?;
+            add_decls(alloc, folding, array + 1, rest, made)
         }
     }
 }

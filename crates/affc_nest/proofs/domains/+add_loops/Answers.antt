@@ -1,11 +1,12 @@
 use Rattle.std.proofs.Common.{◌≡◌, ◌∷◌, ◌+◌, ◌-◌, pos, length, take, drop, get_or, List, ℤ, refl, ap, sym, subst, ◌∙◌}
 use Rattle.affc_domain.specs.Rounds.{Loop}
+use Rattle.affc_domain.proofs.Lists.{tail_is}
 use Rattle.affc_nest.specs.declared.frames.Frame.{Frame}
 use Rattle.affc_nest.specs.Frames.{seen, all_seen}
 use Rattle.affc_nest.specs.Domains.{range_rows, with_rows}
 use Rattle.affc_nest.specs.Sides.{NearRanges}
 use Rattle.affc_nest.proofs.IntervalLemmas.{same_range}
-use Rattle.affc_nest.proofs.RowLemmas.{tail_is, loops_last}
+use Rattle.affc_nest.proofs.RowLemmas.{loops_last}
 use Rattle.affc_nest.proofs.domains.+add_loops.Goals as goal
 
 pub returns-in_ok-add_loops-in-len1-up-ranges-clause-value : goal.returns-in_ok-add_loops-in-len1-up-ranges-clause-value

@@ -1,7 +1,4 @@
-use Rattle.std.proofs.Common.{◌≡◌, rules, subst, sym, ap, ◌∙◌}
-use Rattle.std.specs.Prelude.{IfErr}
-use Rattle.affc_domain.specs.Ranges.{first_wide}
-use Rattle.affc_nest.specs.Entries.{FaultSays, first_wide_at}
+use Rattle.std.proofs.Common.{ap, ◌∙◌}
 use Rattle.affc_nest.specs.Sites.{places}
 use Rattle.affc_nest.proofs.PlaceProofs.{near_params, plain_sites, few_sites, entries_made, wide_there}
 use Rattle.affc_nest.proofs.extraction.entries.Goals as goal
@@ -16,18 +13,11 @@ add_entries-requires-clause-plain c =
 pub add_entries-requires-clause-few : goal.add_entries-requires-clause-few
 add_entries-requires-clause-few c = few_sites c.as_slice-2.result.now c.args.program.now c.requires.plain (ap places c.as_slice-2.ensures.value ∙ c.in_ok-sites.ensures)
 
-pub returns-in_err-add_entries-clause-wide : goal.returns-in_err-add_entries-clause-wide
-returns-in_err-add_entries-clause-wide c =
-    let e : first_wide_at c.args.params.now 0 (places c.as_slice-2.result.now) ≡ first_wide c.args.program.now =
-    wide_there c.args.params.now c.args.program.now (places c.as_slice-2.result.now) c.requires.params (ap places c.as_slice-2.ensures.value ∙ c.in_ok-sites.ensures) in
-    subst (λ w. IfErr c.from_residual-in_err-add_entries.result (FaultSays w)) e (search rules)
-
 pub returns-clause-value : goal.returns-clause-value
 returns-clause-value c =
     entries_made c.args.params.now c.as_slice.result.now _ c.args.program.now (places c.as_slice-2.result.now) c.add_entries.new.out c.new-entries.result
-    c.in_ok-add_entries.ensures.value c.new-entries.ensures c.as_slice.ensures (ap places c.as_slice-2.ensures.value ∙ c.in_ok-sites.ensures)
+    c.in_ok-wide.ensures.value c.new-entries.ensures c.as_slice.ensures (ap places c.as_slice-2.ensures.value ∙ c.in_ok-sites.ensures)
 
-pub returns-clause-near : goal.returns-clause-near
-returns-clause-near c =
-    sym (wide_there c.args.params.now c.args.program.now (places c.as_slice-2.result.now) c.requires.params (ap places c.as_slice-2.ensures.value ∙ c.in_ok-sites.ensures))
-    ∙ c.in_ok-add_entries.ensures.near
+pub returns-clause-wide : goal.returns-clause-wide
+returns-clause-wide c =
+    c.in_ok-wide.ensures.wide ∙ wide_there c.args.params.now c.args.program.now (places c.as_slice-2.result.now) c.requires.params (ap places c.as_slice-2.ensures.value ∙ c.in_ok-sites.ensures)

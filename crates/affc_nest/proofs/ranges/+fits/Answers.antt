@@ -2,10 +2,10 @@ use Rattle.std.proofs.Common.{rules, ◌≡◌, ◌≤◌, suc, ◌∷◌, ◌++
 use Rattle.std.specs.Prelude.{int_lt, ◌&&◌}
 use Rattle.affc_domain.specs.Ranges.{is_near}
 use Rattle.affc_domain.specs.Rounds.{Round, loops_in}
+use Rattle.affc_domain.proofs.Lists.{tail_is}
 use Rattle.affc_nest.specs.declared.frames.Frame.{Frame}
 use Rattle.affc_nest.specs.Frames.{seen, all_seen}
 use Rattle.affc_nest.proofs.IntervalLemmas.{far_is, fit_outside, again, near_more, one_longer, plain_inside, fewer_inside}
-use Rattle.affc_nest.proofs.RowLemmas.{tail_is}
 use Rattle.affc_nest.proofs.ranges.+fits.Goals as goal
 
 whole_is : (fs : List Frame) (x y : Frame) → 1 ≤ length fs → x ≡ get_or fs 0 x → x ≡ y → all_seen fs ≡ seen y ∷ all_seen (take (length fs - 1) (drop 1 fs))

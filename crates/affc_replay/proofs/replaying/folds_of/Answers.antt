@@ -9,4 +9,4 @@ returns-clause-decided c =
     c.requires.replaying.fits c.in_ok-checked.ensures.ok (subst (λ as'. HasScalars 0 as' c.in_ok-checked.checked.folds.items c.add_scalars.new.out.items) c.as_slice.ensures c.in_ok-add_scalars.ensures)
 
 pub accepted-requires : goal.accepted-requires
-accepted-requires c = record { replaying = c.requires.replaying }
+accepted-requires c = record { replaying = c.requires.replaying; read = c.requires.read; within = c.requires.within; bases = c.requires.bases }

@@ -1,5 +1,5 @@
 use Rattle.std.proofs.Common.{sym, subst}
-use Rattle.std.proofs.lemmas.Result.{err_from_is_err_and, IfErr-weaker}
+use Rattle.std.proofs.lemmas.Result.{IfErr-weaker}
 use Rattle.affc_replay.specs.Made.{IsDecided}
 use Rattle.affc_replay.proofs.Refused.{memory_refuses}
 use Rattle.affc_replay.proofs.replaying.replay_by.Goals as goal
@@ -11,22 +11,20 @@ pub returns-clause-err : goal.returns-clause-err
 returns-clause-err c =
     IfErr-weaker c.written.result _ _ (λ refusal is schedule planned text reads bare. memory_refuses text schedule c.args.certificate.now refusal is) c.written.ensures.err
 
-pub returns-in_err-nest-clause-err : goal.returns-in_err-nest-clause-err
-returns-in_err-nest-clause-err c =
-    let p = err_from_is_err_and c.from_residual.result c.from_residual.ensures.1 in
-    rw (p.1, p.2) (λ schedule planned. c.in_err-nest.ensures.err c.args.plan.now schedule c.args.certificate.now planned)
-
 pub folds_of-requires : goal.folds_of-requires
 folds_of-requires c = record {
   replaying = record {
     plain = c.requires.plain;
     arrays = c.requires.arrays;
     temporaries = c.requires.temporaries;
-    near = c.in_ok-nest.ensures.near;
+    near = c.in_ok-in_range.ensures.near;
     is = c.in_ok-nest.ensures.nest;
     fits = c.requires.fits;
     slight = c.requires.slight;
   };
+  read = c.in_ok-cert.ensures.read;
+  within = c.in_ok-cert.ensures.within;
+  bases = c.in_ok-cert.ensures.bases;
 }
 
 pub written-requires-clause-replaying : goal.written-requires-clause-replaying
@@ -34,7 +32,7 @@ written-requires-clause-replaying c = record {
   plain = c.requires.plain;
   arrays = c.requires.arrays;
   temporaries = c.requires.temporaries;
-  near = c.in_ok-nest.ensures.near;
+  near = c.in_ok-in_range.ensures.near;
   is = c.in_ok-nest.ensures.nest;
   fits = c.requires.fits;
   slight = c.requires.slight;
