@@ -1,23 +1,18 @@
 -- Folds that obey put the elements of a pair, such as those that are live together, at different places.
-use Rattle.std.proofs.Common.{◌≡◌, ◌≢◌, ℕ, suc, ◌<◌, ℤ, List, [], ◌∷◌, length, map, refl, sym, ap, subst, ◌∙◌, inl, inr, arith, Option, Some, None}
+use Rattle.std.proofs.Common.{◌≡◌, ◌≢◌, ℕ, suc, ◌<◌, ℤ, List, [], ◌∷◌, length, map, refl, sym, ap, subst, ◌∙◌, arith, Option, Some, None}
 use Rattle.affc_ast.specs.declared.tree.ArrayId.{ArrayId}
 use Rattle.affc_ast.specs.declared.tree.Program.{Program}
 use Rattle.affc_ast.specs.Store.{Element}
 use Rattle.affc_ast.specs.Meaning.{arrays_of}
-use Rattle.affc_ast.specs.Trace.{trace}
 use Rattle.affc_trace.specs.declared.schedule.Schedule.{Schedule}
-use Rattle.affc_trace.specs.Orders.{StoredBetween}
-use Rattle.affc_trace.specs.Target.{target}
-use Rattle.affc_trace.specs.Effects.{effect}
-use Rattle.affc_trace.specs.Dataflow.{unshared, same_element, AreLive, LivePair, Admissible}
-use Rattle.affc_trace.proofs.Legality.{later_is_in}
-use Rattle.affc_trace.proofs.Contents.{target_is_reordered_law}
+use Rattle.affc_trace.specs.Dataflow.{unshared, AreLive, LivePair, Admissible}
 use Rattle.affc_trace.proofs.Composed.{compiles_source}
 use Rattle.affc_basis.specs.declared.fold.Fold.{Fold}
 use Rattle.affc_basis.specs.Folds.{forms_of, folded_by, IsAdmissible, Obeys, fold_of, place}
-use Rattle.affc_basis.specs.Laws.{HasDimensions, AreFoldsOf, AreDifferent, RowsSeparate, PlacesMeetInTheLattice, ObeyingFoldSeparates, AdmissibleFoldsSeparate, LivePairsAreDifferent, PlacesAreAdmissible, FoldsKeepParameters, CompilesFolded, FoldedPremisesCompile}
+use Rattle.affc_basis.specs.Laws.{AreFoldsOf, RowsSeparate, PlacesMeetInTheLattice, ObeyingFoldSeparates, AdmissibleFoldsSeparate, LivePairsAreDifferent, PlacesAreAdmissible, FoldsKeepParameters, CompilesFolded, FoldedPremisesCompile}
 use Rattle.affc_basis.proofs.Remainders.{in_lattice_of_equal, equal_of_in_lattice}
 use Rattle.affc_basis.proofs.Separation.{rows_separate, separated}
+use Rattle.affc_basis.proofs.Touched.{both_live}
 
 pub rows_separate_law : RowsSeparate
 rows_separate_law basis x y e f h = rows_separate basis.rows basis.inverse basis.square basis.identity x y e f h
@@ -35,21 +30,10 @@ length-map f (x ∷ xs) = ap suc_of (length-map f xs)
 
 -- ---- elements that are live together have the array's dimensions
 
-module _ (program : Program) (schedule : Schedule) (array n : ℕ) (p : List ℤ) (dimensions : HasDimensions program p array n) where
-  both_have : (x y : List ℤ) → StoredBetween (effect program p) same_element (trace program p) (target program schedule p) (array, x) (array, y) → (length x ≡ n) × (length y ≡ n)
-  both_have x y s =
-      let reordered = target_is_reordered_law program schedule p in (
-        dimensions s.load x (reordered.no_other s.load (later_is_in (target program schedule p) s.other s.load s.before)) (inl s.loads),
-        dimensions s.other y (reordered.no_other s.other (later_is_in (target program schedule p) s.store s.other s.after)) (inr s.stores),
-      )
-
-  different : AreDifferent (LivePair program schedule array p) n
-  different x y live =
-      let lengths : (length x ≡ n) × (length y ≡ n) = elim live.between [ inl s ↦ both_have x y s | inr s ↦ (let r = both_have y x s in (r.1, r.0)) ] in
-      (λ e. live.distinct (ap (λ z. (array, z)) e), lengths.0, lengths.1)
-
 pub live_pairs_are_different : LivePairsAreDifferent
-live_pairs_are_different program schedule array n p dimensions = different program schedule array n p dimensions
+live_pairs_are_different program schedule array n p dimensions x y live =
+    let lengths = both_live program schedule array p (λ z. length z ≡ n) dimensions x y live in
+    (λ e. live.distinct (ap (λ z. (array, z)) e), lengths.0, lengths.1)
 
 -- ---- a fold that obeys
 

@@ -10,6 +10,7 @@ pub mod PremiseExamples
 pub mod Marks
 pub mod WideLemmas
 pub mod Products
+pub mod Touched
 pub mod Whole
 pub mod FoldsFound
 pub mod Uniques

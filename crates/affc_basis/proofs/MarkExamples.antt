@@ -6,9 +6,11 @@ use Rattle.affc_ast.specs.declared.tree.Ix.TheBlock.{shape-the_row-Ix-0, hidden-
 use Rattle.affc_ast.specs.declared.tree.Val.TheBlock.{shape-the_row-Val-0, hidden-the_row-Val-0}
 use Rattle.affc_ast.specs.declared.tree.Stmt.TheBlock.{shape-the_row-Stmt-0, hidden-the_row-Stmt-0}
 use Rattle.affc_rows.specs.Forms.{dot, value}
-use Rattle.affc_trace.specs.Examples.{blur, together, two}
-use Rattle.affc_trace.specs.Dataflow.{LivePair}
+use Rattle.affc_trace.specs.Examples.{blur, together, two, cell}
+use Rattle.affc_trace.specs.Dataflow.{LivePair, live_pairs, same_element}
 use Rattle.affc_trace.specs.Laws.{IsInContext}
+use Rattle.affc_trace.proofs.Found.{live_pairs_are_found}
+use Rattle.affc_trace.proofs.Members.{to_filter}
 use Rattle.affc_basis.specs.Slices.{along, InSlice, IsGreatest}
 use Rattle.affc_basis.specs.Examples.{x0, number, one_more, first_row, OnlyTwoIsGreatest, MarksElsewhere, OnePair, OneIsEnough, OneHasNoPair, BlurNeedsThree, IsEnoughForTheBlur, ThreeIsEnough, MarksOfTheBlur}
 use Rattle.affc_basis.proofs.Greatest.{greatest_is_found}
@@ -119,10 +121,17 @@ at_zero g e f = omega arith
 too_great : (g : ℕ) → g + 1 ≡ 4 → 2 ≡ g → ⊥
 too_great g e f = omega arith
 
+-- t[4] is in no live pair
+apart_not_live : LivePair blur together 2 two (pos 2 ∷ []) (pos 4 ∷ []) → ⊥
+unfolding shape-the_row-Ix-0 hidden-the_row-Ix-0 shape-the_row-Val-0 hidden-the_row-Val-0 shape-the_row-Stmt-0 hidden-the_row-Stmt-0 hidden
+apart_not_live live =
+    to_filter (λ e. same_element e.1 (cell 2 4)) (live_pairs blur together two) (cell 2 2, cell 2 4) ((live_pairs_are_found blur together two (cell 2 2) (cell 2 4)).1 live) refl
+
 pub marks_of_the_blur : MarksOfTheBlur
 marks_of_the_blur = (
   three_is_least,
   λ m. nearer m.greatest (one_less 3 m.greatest m.value_there) m.attains.1,
+  λ m. apart_not_live m.attains.0.pair,
   λ m. no_pair m.greatest (one_less 3 m.greatest m.value_there) m.attains,
   λ m. farther m.greatest (one_less 2 m.greatest m.value_there) (m.is_greatest.most (pos 0 ∷ []) (pos 2 ∷ []) ends_in_slice),
   λ m. too_great m.greatest (one_less 4 m.greatest m.value_there) m.attains.1,

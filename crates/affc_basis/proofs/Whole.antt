@@ -1,20 +1,12 @@
 -- An array whose moduli are its extents obeys.
-use Rattle.std.proofs.Common.{◌≡◌, ℕ, zero, suc, ℤ, pos, ◌-ℤ◌, ◌<ℤ◌, List, [], ◌∷◌, length, get_or, refl, sym, ap, subst, ◌∙◌, inl, inr, arith}
+use Rattle.std.proofs.Common.{◌≡◌, ℕ, zero, suc, ℤ, pos, ◌-ℤ◌, ◌<ℤ◌, List, [], ◌∷◌, length, get_or, refl, sym, ap, subst, ◌∙◌, arith}
 use Rattle.std.specs.Prelude.{unsigned_abs}
-use Rattle.affc_rows.specs.Forms.{Affine, value}
-use Rattle.affc_ast.specs.declared.tree.Program.{Program}
-use Rattle.affc_ast.specs.Trace.{trace}
-use Rattle.affc_trace.specs.declared.schedule.Schedule.{Schedule}
-use Rattle.affc_trace.specs.Orders.{StoredBetween}
-use Rattle.affc_trace.specs.Effects.{effect}
-use Rattle.affc_trace.specs.Target.{target}
-use Rattle.affc_trace.specs.Dataflow.{same_element, LivePair}
-use Rattle.affc_trace.proofs.Legality.{later_is_in}
-use Rattle.affc_trace.proofs.Contents.{target_is_reordered_law}
+use Rattle.affc_rows.specs.Forms.{value}
 use Rattle.affc_trace.proofs.Recovers.{dot-unit_row}
 use Rattle.affc_basis.specs.Slices.{minus, along}
-use Rattle.affc_basis.specs.Laws.{IsWithinExtents, LiesWithin, LieWithinExtents, LivePairsLieWithin, WholeArrayObeys}
+use Rattle.affc_basis.specs.Laws.{IsWithinExtents, LivePairsLieWithin, WholeArrayObeys}
 use Rattle.affc_basis.proofs.Remainders.{between}
+use Rattle.affc_basis.proofs.Touched.{both_live}
 
 length-minus : (x y : List ℤ) → length x ≡ length y → length (minus x y) ≡ length x
 length-minus [] y e = refl
@@ -28,20 +20,8 @@ minus-at (a ∷ x) [] k e = absurd (omega arith)
 minus-at (a ∷ x) (b ∷ y) zero e = refl
 minus-at (a ∷ x) (b ∷ y) (suc k) e = minus-at x y k (omega arith)
 
-module _ (program : Program) (schedule : Schedule) (array : ℕ) (p : List ℤ) (extents : List Affine) (inside : LiesWithin program p array extents) where
-  both_inside : (x y : List ℤ) → StoredBetween (effect program p) same_element (trace program p) (target program schedule p) (array, x) (array, y)
-      → IsWithinExtents p extents x × IsWithinExtents p extents y
-  both_inside x y s =
-      let reordered = target_is_reordered_law program schedule p in (
-        inside s.load x (reordered.no_other s.load (later_is_in (target program schedule p) s.other s.load s.before)) (inl s.loads),
-        inside s.other y (reordered.no_other s.other (later_is_in (target program schedule p) s.store s.other s.after)) (inr s.stores),
-      )
-
-  pair_inside : LieWithinExtents (LivePair program schedule array p) p extents
-  pair_inside x y live = elim live.between [ inl s ↦ both_inside x y s | inr s ↦ (let r = both_inside y x s in (r.1, r.0)) ]
-
 pub live_pairs_lie_within : LivePairsLieWithin
-live_pairs_lie_within program schedule array p extents inside = pair_inside program schedule array p extents inside
+live_pairs_lie_within program schedule array p extents inside = both_live program schedule array p (IsWithinExtents p extents) inside
 
 pub whole_array_obeys : (pairs : List ℤ → List ℤ → List ℤ → Type 0) → WholeArrayObeys pairs
 whole_array_obeys pairs fold p differ own_rows positive inside k row b at at_b =

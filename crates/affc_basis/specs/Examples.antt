@@ -203,11 +203,13 @@ IsTrueOfTheBlur m = IsTrueMark (IsInContext blur) (LivePair blur together 2) (x0
 abbrev pub marked : ℕ → Option (List ℤ × List ℤ) → Modulus
 marked n pair = record { form = number n; mark = Least two pair }
 
--- t[0] and t[1] are live together too, but don't lie farthest apart; and a bound may be any form
+-- t[0] and t[1] are live together too, but don't lie farthest apart; t[2] and t[4] do, but aren't live together, since
+-- nothing stores t[4] at N = 2; and a bound may be any form
 abbrev pub MarksOfTheBlur : Type 0
 MarksOfTheBlur =
     IsTrueOfTheBlur (marked 3 (Some (pos 0 ∷ [], pos 2 ∷ [])))
     × (IsTrueOfTheBlur (marked 3 (Some (pos 0 ∷ [], pos 1 ∷ []))) → ⊥)
+    × (IsTrueOfTheBlur (marked 3 (Some (pos 2 ∷ [], pos 4 ∷ []))) → ⊥)
     × (IsTrueOfTheBlur (marked 3 None) → ⊥)
     × (IsTrueOfTheBlur (marked 2 (Some (pos 0 ∷ [], pos 1 ∷ []))) → ⊥)
     × (IsTrueOfTheBlur (marked 4 (Some (pos 0 ∷ [], pos 2 ∷ []))) → ⊥)

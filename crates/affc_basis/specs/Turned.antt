@@ -1,5 +1,5 @@
 -- The basis (-x0), which is its own inverse.
-use Rattle.std.specs.Prelude.{◌≡◌, ℕ, zero, suc, ◌≤◌, pos, negsuc, unsigned_abs, [], ◌∷◌, length, refl}
+use Rattle.std.specs.Prelude.{◌≡◌, zero, suc, ◌≤◌, pos, negsuc, unsigned_abs, [], ◌∷◌, length, refl}
 use Rattle.std.proofs.Common.{subst, lit≤, arith}
 use Rattle.std.proofs.lemmas.List.Elements.{All-nil, All-cons}
 use Rattle.std.proofs.lemmas.Option.{same_Some}

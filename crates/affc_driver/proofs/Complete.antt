@@ -1,6 +1,6 @@
 -- A text is folded exactly where its program is never stuck, and its schedule is legal; then nothing but want
 -- of budget or of memory is in the way. So it is of its trees, without a schedule.
-use Rattle.std.proofs.Common.{◌≡◌, ℕ, ◌<◌, ◌≤◌, ℤ, true≢false, List, [], length, Option, Some, None, refl, sym, ap, subst, ◌∙◌, inl, inr, arith}
+use Rattle.std.proofs.Common.{◌≡◌, ℕ, ◌<◌, ◌≤◌, ℤ, true≢false, List, length, Option, Some, None, refl, sym, ap, subst, ◌∙◌, inl, inr, arith}
 use Rattle.std.specs.Prelude.{slice_get}
 use Rattle.std.proofs.lemmas.Bool.{leb-true}
 use Rattle.std.proofs.lemmas.Option.{none-some, same_Some}
@@ -17,12 +17,12 @@ use Rattle.affc_ast.specs.Trace.{loads_of}
 use Rattle.affc_trace.specs.Dataflow.{LivePair}
 use Rattle.affc_trace.specs.Laws.{IsInContext}
 use Rattle.affc_trace.specs.Orders.{Earlier}
+use Rattle.affc_domain.proofs.Lists.{stands_in}
 use Rattle.affc_plain.proofs.NoLocals.{plain_has_no_locals}
 use Rattle.affc_plain.proofs.Programs.{reads_plain}
 use Rattle.affc_safe.specs.Safe.{IsSafe}
 use Rattle.affc_safe.proofs.EndedSafe.{unwritten_instance}
 use Rattle.affc_safe.proofs.FitsThere.{never_stuck_is_safe}
-use Rattle.affc_nest.proofs.QuestionLemmas.{stands_in}
 use Rattle.affc_nest.specs.Nests.{nest_of}
 use Rattle.affc_loopends.specs.scanned.Laws.{SameLoopsScan}
 use Rattle.affc_loopends.specs.bounding.Laws.{ProgramsScan}
@@ -37,6 +37,8 @@ use Rattle.affc_weigh.specs.declared.choice.Price.{Price}
 use Rattle.affc_weigh.proofs.Tops.{beside}
 use Rattle.affc_life.specs.Folding.{given_for}
 use Rattle.affc_folds.specs.Folding.{IsSpent, IsTaken, IsChoice}
+use Rattle.affc_folds.specs.Laws.{AnswersModuli}
+use Rattle.affc_folds.proofs.AllFolds.{folds_exist}
 use Rattle.affc_folds.proofs.CheapestLemmas.{none_costs_less}
 use Rattle.affc_bounds.specs.Faults.{StaysWithin, IsMeaningFault}
 use Rattle.affc_bounds.proofs.LawProofs.{faults_do_not_stay}
@@ -48,15 +50,16 @@ use Rattle.affc_schedtext.proofs.Excludes.{excludes}
 use Rattle.affc_legal.specs.Violations.{IsViolation}
 use Rattle.affc_dataflow.specs.Unwritten.{LoadsUnwritten}
 use Rattle.affc_bounds.specs.threshold.Thresholds.{threshold}
-use Rattle.affc_driver.specs.Accounts.{reaches, IsUnlimited, IsShort}
+use Rattle.affc_driver.specs.Accounts.{free, reaches, IsUnlimited, IsShort}
 use Rattle.affc_driver.specs.Folds.{FoldsTo}
-use Rattle.affc_driver.specs.Laws.{IllegalShows, UnlimitedFoldsAll, NoneIsCheaper, IsFoldable, FoldableIsFolded, FoldableIsNotRefused, UnlimitedIsNotRefused, IsSound, FlowsAreSound, SoundIsNotRefused}
+use Rattle.affc_driver.specs.Laws.{IllegalShows, UnlimitedFoldsAll, NoneIsCheaper, AreFull, IsFoldable, FoldableIsFolded, FoldedIsFoldable, FoldableIsNotRefused, UnlimitedIsNotRefused, IsSound, FlowsAreSound, SoundIsNotRefused}
 use Rattle.affc_driver.specs.Plans.{HasPlan, WrittenThroughout}
 use Rattle.affc_driver.specs.Refusals.{IsSourceFault, IsPrinted, HasSchedFault, HasMeaningFault, HasUnwritten, IsIllegal}
 use Rattle.affc_driver.specs.Reports.{report_text}
 use Rattle.affc_driver.specs.declared.refusal.Refusal.TheVariants.{Source, Printed, Schedule, Meaning, Unwritten, Illegal, Budget, Memory}
-use Rattle.affc_driver.proofs.Compiled.{within_never_stuck, named_is_written, nothing_folded, printed_compiles, has_loops}
+use Rattle.affc_driver.proofs.Compiled.{within_never_stuck, named_is_written, printed_compiles, has_loops}
 use Rattle.affc_driver.proofs.Counted.{nothing_counted}
+use Rattle.affc_driver.proofs.Folded.{stays_at}
 use Rattle.affc_driver.proofs.OnePlan.{one_target, one_threshold}
 use Rattle.affc_driver.proofs.Roles.{reads_roles, temporary_far}
 
@@ -81,11 +84,7 @@ is_written text s p here = (safe_at text s p here).written
 
 -- ---- Such texts are folded
 
--- a budget that is spent at once
-abbrev at_once : Account
-at_once = record { limit = Some 0; spent = 0 }
-
-folded_is_foldable : (Answers : List ℕ → ℕ → Type 0) (text : List ℕ) (schedule : Option (List ℕ)) (budget : Account) (folded report : List ℕ) → FoldsTo Answers text schedule budget folded report → IsFoldable text schedule
+pub folded_is_foldable : (Answers : List ℕ → ℕ → Type 0) → FoldedIsFoldable Answers
 folded_is_foldable Answers text schedule budget folded report folds =
     let program : Program = folds.compiles.source in
     let reads : Reads text program = folds.compiles.source_reads in
@@ -101,28 +100,6 @@ folded_is_foldable Answers text schedule budget folded report folds =
       legal = folds.legal;
     }
 
-module _ (times : FoldsKeepTimes) (scan : ProgramsScan) (same : SameLoopsScan) (named : FoldsWellNamed) (compiled : FoldsCompile) (Answers : List ℕ → ℕ → Type 0) where
-  is_folded : (text : List ℕ) (schedule : Option (List ℕ)) → IsFoldable text schedule → (budget : Account) × ((folded : List ℕ) × ((report : List ℕ) × FoldsTo Answers text schedule budget folded report))
-  is_folded text schedule f =
-      let sound = sound_of text schedule f in
-      let stays = stays_within text sound in
-      let none = nothing_folded Answers f.program (LivePair f.program f.plan.schedule) f.plan.folds at_once (λ whole. record { most = 0; limit = refl; reached = omega arith }) in
-      let has = has_loops text schedule f.program f.plan f.reads f.plain stays f.planned in
-      let own = scan f.program f.plan.schedule has in
-      let other = same f.program (folded_program f.program []) f.plan.schedule own.0 has (times f.program []) own.1 in (
-        at_once,
-        (
-          printed_text other.0.program,
-          (
-            report_text f.program [] [] other.0.loose.items,
-            printed_compiles named compiled Answers text schedule f.program f.plan at_once [] [] other.0 f.reads f.plain stays (is_written text sound) f.planned f.legal none other.1,
-          ),
-        ),
-      )
-
-  pub foldable_is_folded : FoldableIsFolded Answers
-  foldable_is_folded text schedule = (is_folded text schedule, (λ h. folded_is_foldable Answers text schedule h.0 h.1.0 h.1.1.0 h.1.1.1))
-
 unlimited : (budget : Account) → budget.limit ≡ None → ¬ (IsSpent budget)
 unlimited budget none spent = absurd (none-some spent.most (sym none ∙ spent.limit))
 
@@ -135,19 +112,22 @@ module _ (Answers : List ℕ → ℕ → Type 0) where
       let s = beside choice.prices (listing (length fold.basis.rows)) j None (sym taken.prices.one_each) at in
       taken.prices.each j s.0 None s.1 at
 
+  full : (text : List ℕ) (schedule : Option (List ℕ)) (budget : Account) (folded report : List ℕ) (r : FoldsTo Answers text schedule budget folded report) → budget.limit ≡ None → AreFull r.compiles.source r.folds r.choices
+  full text schedule budget folded report r none = (
+    λ whole. unlimited budget none (r.are_folds.whole whole),
+    λ array fold is has. unlimited budget none (r.are_folds.bound array fold is has),
+    λ array fold choice j is at missing.
+        let c = r.are_folds.chosen array fold is in
+        let same : c.choice ≡ choice = same_Some c.choice choice (sym c.found ∙ at) in
+        unlimited budget none
+        (no_price r.compiles.source (LivePair r.compiles.source r.plan.schedule) r.plan.folds budget array fold choice (given_for r.plan.folds array (length fold.basis.rows)) j
+        (subst (λ (d : Choice). IsTaken (given_for r.plan.folds array (length fold.basis.rows)) Answers r.compiles.source (LivePair r.compiles.source r.plan.schedule) budget array fold d) same c.is.taken) missing),
+  )
+
   pub unlimited_folds_all : UnlimitedFoldsAll Answers
   unlimited_folds_all text schedule left folded report h plenty =
       let r = h.folds_to in
-      let none : h.account.limit ≡ None = nothing_counted h.account left (threshold (nest_of r.compiles.source) r.plan.schedule) h.counted plenty in (
-        λ whole. unlimited h.account none (r.are_folds.whole whole),
-        λ array fold is has. unlimited h.account none (r.are_folds.bound array fold is has),
-        λ array fold choice j is at missing.
-            let c = r.are_folds.chosen array fold is in
-            let same : c.choice ≡ choice = same_Some c.choice choice (sym c.found ∙ at) in
-            unlimited h.account none
-            (no_price r.compiles.source (LivePair r.compiles.source r.plan.schedule) r.plan.folds h.account array fold choice (given_for r.plan.folds array (length fold.basis.rows)) j
-            (subst (λ (d : Choice). IsTaken (given_for r.plan.folds array (length fold.basis.rows)) Answers r.compiles.source (LivePair r.compiles.source r.plan.schedule) h.account array fold d) same c.is.taken) missing),
-      )
+      full text schedule h.account folded report r (nothing_counted h.account left (threshold (nest_of r.compiles.source) r.plan.schedule) h.counted plenty)
 
   pub none_is_cheaper : NoneIsCheaper Answers
   none_is_cheaper text schedule budget folded report never r array fold choice is at given settled other cost like costs =
@@ -155,6 +135,28 @@ module _ (Answers : List ℕ → ℕ → Type 0) where
       let same : c.choice ≡ choice = same_Some c.choice choice (sym c.found ∙ at) in
       none_costs_less Answers (LivePair r.compiles.source r.plan.schedule) r.compiles.source r.plan.folds budget array fold choice (reads_plain text r.compiles.source r.compiles.source_reads r.plain) never
       (subst (IsChoice Answers r.compiles.source (LivePair r.compiles.source r.plan.schedule) r.plan.folds budget array fold) same c.is) given settled other cost like costs
+
+module _ (times : FoldsKeepTimes) (scan : ProgramsScan) (same : SameLoopsScan) (named : FoldsWellNamed) (compiled : FoldsCompile) (Answers : List ℕ → ℕ → Type 0) where
+  is_folded : AnswersModuli Answers → (text : List ℕ) (schedule : Option (List ℕ)) → IsFoldable text schedule → (folded : List ℕ) × ((report : List ℕ) × FoldsTo Answers text schedule free folded report)
+  is_folded answers text schedule f =
+      let stays = stays_within text (sound_of text schedule f) in
+      let plain = reads_plain text f.program f.reads f.plain in
+      let all = folds_exist Answers f.program f.plan.schedule f.plan.folds (record { plain = plain; near = f.near }) f.some (stays_at f.program stays) answers in
+      let has = has_loops text schedule f.program f.plan f.reads f.plain stays f.planned in
+      let own = scan f.program f.plan.schedule has in
+      let other = same f.program (folded_program f.program all.0) f.plan.schedule own.0 has (times f.program all.0) own.1 in (
+        printed_text other.0.program,
+        (
+          report_text f.program all.0 all.1.0 other.0.loose.items,
+          printed_compiles named compiled Answers text schedule f.program f.plan free all.0 all.1.0 other.0 f.reads f.plain stays (is_written text (sound_of text schedule f)) f.planned f.legal (all.1.1 free) other.1,
+        ),
+      )
+
+  pub foldable_is_folded : FoldableIsFolded Answers
+  foldable_is_folded answers text schedule = (
+    λ f. (let r = is_folded answers text schedule f in (r.0, (r.1.0, record { folds_to = r.1.1; full = full Answers text schedule free r.0 r.1.0 r.1.1 refl }))),
+    λ h. folded_is_foldable Answers text schedule free h.0 h.1.0 h.1.1.folds_to,
+  )
 
 pub flows_are_sound : FlowsAreSound
 flows_are_sound text told f = record {
@@ -206,7 +208,7 @@ no_meaning_fault text schedule fault s says =
 not_unwritten : (text : List ℕ) (schedule : Option (List ℕ)) (array access : ℕ) (p : List ℤ) (b : Instance) → IsSound text → HasUnwritten text schedule array access p b → ⊥
 not_unwritten text schedule array access p b s says =
     let program = s.program in
-    let u : LoadsUnwritten program access p b = subst (λ t. LoadsUnwritten t access p b) (same_tree text s says.of.tree says.of.reads) says.loads in
+    let u : LoadsUnwritten program array access p b = subst (λ t. LoadsUnwritten t array access p b) (same_tree text s says.of.tree says.of.reads) says.loads in
     unwritten_instance program p b u.element u.runs (stands_in (loads_of program p b) access u.element u.loaded) (temporary_far program (reads_roles text program s.reads s.plain) u.element.0 u.temporary) u.none
     (safe_at text s p u.context)
 

@@ -7,6 +7,7 @@ use Rattle.affc_ast.specs.declared.tree.Program.{Program}
 use Rattle.affc_grammar.specs.Limits.{limits_of}
 use Rattle.affc_grammar.proofs.Texts.{one_tree}
 use Rattle.affc_trace.specs.declared.schedule.Schedule.{Schedule}
+use Rattle.affc_domain.specs.Ranges.{first_wide}
 use Rattle.affc_split.specs.Budgets.{Account, IsLater}
 use Rattle.affc_nest.specs.declared.nest.Nest.{Nest}
 use Rattle.affc_nest.specs.Nests.{nest_of}
@@ -42,9 +43,10 @@ module _ (named : FoldsWellNamed) (compiled : FoldsCompile) (Answers : List ℕ 
   }
 
 -- where a limit isn't plenty, it is below the threshold
-pub is_short : (program : Program) (plan : Plan) (limit : Option ℕ) (most : ℕ) → limit ≡ Some most → is_plenty program plan.schedule limit ≡ false → OfEachPlan program plan (λ text schedule. IsShort text schedule limit)
-is_short program plan limit most e few schedule has text reads bare = record {
+pub is_short : (program : Program) (plan : Plan) (limit : Option ℕ) (most : ℕ) → first_wide program ≡ None → limit ≡ Some most → is_plenty program plan.schedule limit ≡ false → OfEachPlan program plan (λ text schedule. IsShort text schedule limit)
+is_short program plan limit most near e few schedule has text reads bare = record {
   of = planned program plan schedule has text reads bare;
+  near = near;
   most = most;
   limited = e;
   below = leb-false (threshold (nest_of program) plan.schedule) most (sym (ap (λ l. reaches l (threshold (nest_of program) plan.schedule)) e) ∙ few);

@@ -1,7 +1,7 @@
 -- What a certificate is asked of.
 use Rattle.std.proofs.Common.{ℕ, ◌-◌, ◌<◌, List, length, arith}
+use Rattle.affc_domain.proofs.Lists.{there_is}
 use Rattle.affc_nest.specs.declared.nest.Nest.{Nest}
-use Rattle.affc_nest.proofs.QuestionLemmas.{there_is}
 use Rattle.affc_quast.specs.Limits.{narrow, HaveShapes, AreTreesWithin}
 use Rattle.affc_quast.specs.Trees.{Tree}
 use Rattle.affc_life.proofs.FoundLemmas.{found_trees_keep_limits}

@@ -8,9 +8,11 @@ use Rattle.affc_ast.specs.Trace.{loads_of, store_of, events}
 use Rattle.affc_trace.specs.Dataflow.{LivePair}
 use Rattle.affc_trace.specs.Effects.{effect}
 use Rattle.affc_trace.specs.Law.{IsIn}
+use Rattle.affc_trace.specs.Laws.{IsInContext}
 use Rattle.affc_trace.specs.Orders.{Touches}
 use Rattle.affc_split.specs.Budgets.{Account}
 use Rattle.affc_nest.specs.declared.nest.Nest.{Nest}
+use Rattle.affc_nest.specs.Laws as nest
 use Rattle.affc_nest.specs.Laws.{NamesArrays}
 use Rattle.affc_bounds.specs.Faults.{StaysWithin}
 use Rattle.affc_quast.specs.Limits.{narrow, AreTreesWithin}
@@ -35,6 +37,13 @@ touches program p b x there = elim (in_append (loads_of program p b) (store_of p
   | inr k ↦ elim k [ inl e ↦ inr e | inr none ↦ absurd none ]
 ]
 
+-- at a p of the context
+pub stays_at : (program : Program) → StaysWithin program → (p : List ℤ) → IsInContext program p → nest.StaysWithin program p
+stays_at program within p inside = record {
+  extents = within.extents p inside;
+  accesses = λ b x runs there. within.accesses p inside b x runs (touches program p b x there);
+}
+
 pub analysed : (program : Program) (nest : Nest) (plan : Plan) (trees : List Tree) → IsCompilation program nest plan → NameThroughout program trees → AreTreesWithin narrow 302 12 nest trees → IsAnalysed program nest trees plan.schedule
 analysed program nest plan trees c named limits = record {
   has = record { plain = c.plain; near = c.within.near };
@@ -44,10 +53,7 @@ analysed program nest plan trees c named limits = record {
   slight = c.slight;
   found = limits;
   some = c.within.some;
-  stays = λ p inside. record {
-    extents = c.within.extents p inside;
-    accesses = λ b x runs there. c.within.accesses p inside b x runs (touches program p b x there);
-  };
+  stays = stays_at program c.within;
   sources = λ p inside. subst (λ n. NameSources program p n trees) (sym c.is) (named p inside).sources;
   near = λ p inside. subst (λ n. HaveNearQuotients program p n trees) (sym c.is) (named p inside).near;
 }

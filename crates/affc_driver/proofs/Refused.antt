@@ -1,11 +1,10 @@
 -- What each refusal says of all texts of a program.
-use Rattle.std.proofs.Common.{◌≡◌, ◌≢◌, ◌∙◌, ℕ, ℤ, List, Option, Some, None, refl, ap, subst}
-use Rattle.std.specs.Prelude.{slice_get}
+use Rattle.std.proofs.Common.{◌≡◌, ◌≢◌, ◌∙◌, ℕ, ℤ, List, Option, None, refl, ap, subst}
 use Rattle.affc_ast.specs.declared.tree.Instance.{Instance}
 use Rattle.affc_ast.specs.declared.tree.Program.{Program}
 use Rattle.affc_domain.specs.Plain.{IsPlain}
 use Rattle.affc_nest.specs.declared.nest.Nest.{Nest}
-use Rattle.affc_nest.specs.Laws.{HasNest, NamesArrays}
+use Rattle.affc_nest.specs.Laws.{NamesArrays}
 use Rattle.affc_nest.specs.Nests.{nest_of}
 use Rattle.affc_bounds.specs.Faults.{StaysWithin, IsMeaningFault}
 use Rattle.affc_bounds.specs.declared.fault.MeaningFault.{MeaningFault}
@@ -16,8 +15,6 @@ use Rattle.affc_schedtext.specs.Answers.{IsFault}
 use Rattle.affc_legal.specs.Legal.{IsFor, IsFirstIllegal}
 use Rattle.affc_sched.specs.Legality.{IsAsked}
 use Rattle.affc_ast.specs.declared.tree.ArrayId.{ArrayId}
-use Rattle.affc_nest.specs.declared.nest.Access.{Access}
-use Rattle.affc_nest.specs.declared.nest.Entry.{Entry}
 use Rattle.affc_latest.specs.Stores.{IsNamedNest}
 use Rattle.affc_dataflow.specs.Unwritten.{IsUnwritten}
 use Rattle.affc_driver.specs.Compilations.{IsCompilation}
@@ -34,19 +31,6 @@ use Rattle.affc_driver.specs.declared.refusal.Refusal.{Refusal}
 use Rattle.affc_driver.specs.declared.refusal.Refusal.TheVariants.{Source, Printed, Schedule as NoPlan, Meaning, Unwritten, Illegal, Budget, Memory as Short}
 use Rattle.affc_driver.specs.declared.unread.Unread.{Unread}
 use Rattle.affc_driver.specs.declared.unread.Unread.TheVariants as unread
-use Rattle.affc_driver.proofs.Written.{array_read}
-
-pub no_plan : (program : Program) (text : List ℕ) (fault : SchedFault) → fault ≢ Memory → IsFault text program fault
-    → OfEachText program (λ source. RefusalSays source (Some text) (NoPlan fault))
-no_plan program text fault other is source reads bare = record {
-  tree = program;
-  reads = reads;
-  plain = bare;
-  text = text;
-  given = refl;
-  answers = is;
-  is_fault = other;
-}
 
 abbrev pub planned : (program : Program) (plan : Plan) (schedule : Option (List ℕ)) → HasPlan program schedule plan → OfEachText program (λ text. IsPlanned text schedule)
 planned program plan schedule has text reads bare = record { tree = program; reads = reads; plain = bare; plan = plan; planned = has }
@@ -55,18 +39,10 @@ pub meant : (program : Program) (fault : MeaningFault) → IsMeaningFault progra
     → (plan : Plan) → OfEachPlan program plan (λ source schedule. MeaningSays source schedule (Meaning fault))
 meant program fault is plan schedule has source reads bare = record { of = planned program plan schedule has source reads bare; is_fault = is }
 
-pub unwritten : (program : Program) (nest : Nest) (array : ArrayId) (access : ℕ) (p : List ℤ) (b : Instance) → IsPlain program → NamesArrays program → nest ≡ nest_of program → StaysWithin program → IsUnwritten nest access p b
-    → ((e : Entry) (x : Access) → slice_get nest.entries b.statement ≡ Some e → slice_get e.accesses access ≡ Some x → array ≡ x.array)
+pub unwritten : (program : Program) (nest : Nest) (array : ArrayId) (access : ℕ) (p : List ℤ) (b : Instance) → IsPlain program → NamesArrays program → nest ≡ nest_of program → StaysWithin program → IsUnwritten nest array.0 access p b
     → (plan : Plan) → OfEachPlan program plan (λ source schedule. MeaningSays source schedule (Unwritten array access p b))
-unwritten program nest array access p b plain names is within shown found plan schedule has source reads bare =
-    let nested : HasNest program = record { plain = plain; near = within.near } in
-    let loads = shown program is nested names in
-    record {
-      of = planned program plan schedule has source reads bare;
-      within = within;
-      loads = loads;
-      of_array = array_read program access p b array nested loads (λ e x at there. found e x (ap (λ (n : Nest). slice_get n.entries b.statement) is ∙ at) there);
-    }
+unwritten program nest array access p b plain names is within shown plan schedule has source reads bare =
+    record { of = planned program plan schedule has source reads bare; within = within; loads = shown program is (record { plain = plain; near = within.near }) names }
 
 -- what is wrong with a program refuses its compilation, and its trees
 pub refuses : (source : List ℕ) (schedule : Option (List ℕ)) (refusal : Refusal) → MeaningSays source schedule refusal → RefusalSays source schedule refusal

@@ -15,9 +15,9 @@ use Rattle.affc_grammar.specs.Reads.{Reads}
 use Rattle.affc_trace.specs.Law.{IsIn}
 use Rattle.affc_domain.specs.Arrays.{declared_arrays}
 use Rattle.affc_domain.specs.Ranges.{number_ranges}
+use Rattle.affc_domain.proofs.Lists.{stands_in}
 use Rattle.affc_nest.specs.declared.nest.ArrayInfo.{ArrayInfo}
 use Rattle.affc_nest.specs.Nests.{array_of, nest_of}
-use Rattle.affc_nest.proofs.QuestionLemmas.{stands_in}
 use Rattle.affc_flow.specs.Questions.{is_temp, is_temporary_info, is_temporary}
 use Rattle.affc_wellnamed.specs.Known.{is_new, is_function, extents_known, ixs_known, known_behind, array_param_known, param_known, params_known, temp_known, temps_known, context_known, body_known, program_known}
 use Rattle.affc_wellnamed.specs.Known as known

@@ -30,4 +30,4 @@ unwritten_shows text schedule program array access p instance reads has =
     let tree = has.of.tree in
     let same : tree ≡ program = one_tree limits_of text tree program has.of.reads reads in
     subst (λ t. IsStuckAt t p) same
-    (unwritten_is_stuck tree access p instance (reads_plain text tree has.of.reads has.of.plain) (reads_roles text tree has.of.reads has.of.plain) has.loads)
+    (unwritten_is_stuck tree array access p instance (reads_plain text tree has.of.reads has.of.plain) (reads_roles text tree has.of.reads has.of.plain) has.loads)

@@ -3,17 +3,16 @@ use Rattle.std.proofs.Common.{◌≡◌, ℕ, suc, ◌+◌, ◌-◌, ◌^◌, �
 use Rattle.std.specs.Prelude.{slice_get, nat_lt}
 use Rattle.std.specs.List.{All}
 use Rattle.std.proofs.lemmas.Bool.{ltb-true, ltb-false}
-use Rattle.std.proofs.lemmas.Option.{same_Some}
+use Rattle.std.proofs.lemmas.Option.{same_Some, slice_get_within}
 use Rattle.affc_ast.specs.declared.tree.Program.{Program}
 use Rattle.affc_ast.specs.Trace.{assignments}
 use Rattle.affc_trace.specs.Law.{IsIn}
-use Rattle.affc_domain.proofs.Lists.{length_map}
+use Rattle.affc_domain.proofs.Lists.{length_map, place_of, there_is, to_mapped}
 use Rattle.affc_nest.specs.declared.nest.Entry.{Entry}
 use Rattle.affc_nest.specs.declared.nest.Nest.{Nest}
 use Rattle.affc_nest.specs.Laws.{HasNest}
 use Rattle.affc_nest.specs.Nests.{nest_of}
 use Rattle.affc_nest.proofs.EntryLemmas.{entries_stand}
-use Rattle.affc_nest.proofs.QuestionLemmas.{place_of, there_is, below_length}
 use Rattle.affc_sched.proofs.Lists.{all_from}
 use Rattle.affc_quast.specs.declared.quast.Flow.{Flow}
 use Rattle.affc_quast.specs.declared.quast.Quast.{Quast}
@@ -23,7 +22,6 @@ use Rattle.affc_quast.specs.Sources.{loads_in, loads_before}
 use Rattle.affc_quast.specs.Trees.{depth_of}
 use Rattle.affc_latest.specs.Stores.{IsNamedNest}
 use Rattle.affc_dataflow.proofs.FindLemmas.{few_accesses}
-use Rattle.affc_flow.proofs.FlowLemmas.{mapped_at}
 
 -- the load whose tree has this number
 record LoadOf (es : List Entry) (k : ℕ) : Type 0 where
@@ -54,12 +52,12 @@ module _ (nest : Nest) (flow : Flow) (limits : AreTreesWithin narrow 302 12 nest
   one_short tree i =
       let k = place_of flow.trees tree i in
       let inside : k.0 < loads_before nest.entries (length nest.entries) =
-      (let a = below_length flow.trees k.0 tree k.1 in let b = length_map seen flow.trees in let c = limits.no_more in omega (arith, a, b, c)) in
+      (let a = slice_get_within flow.trees k.0 tree k.1 in let b = length_map seen flow.trees in let c = limits.no_more in omega (arith, a, b, c)) in
       let r = load_of nest.entries k.0 inside in
       let x = there_is r.entry.accesses r.load (fewer (length r.entry.accesses) r.load r.below) in
       let t = limits.each r.statement r.load r.entry x.0 r.there r.below x.1 in
       let at : slice_get (trees_of flow) k.0 ≡ Some t.0 = subst (λ n. slice_get (trees_of flow) n ≡ Some t.0) r.is t.1 in
-      let same : t.0 ≡ seen tree = same_Some t.0 (seen tree) (sym at ∙ mapped_at seen flow.trees k.0 tree k.1) in
+      let same : t.0 ≡ seen tree = same_Some t.0 (seen tree) (sym at ∙ to_mapped seen flow.trees k.0 tree k.1) in
       let s : depth_of (seen tree) ≤ 302 = subst (λ z. depth_of z ≤ 302) same t.2.short in
       omega (arith, s)
     where

@@ -1,8 +1,7 @@
 -- Where trees name the sources of all loads, each load of a temporary is written before. Where one isn't, each run is stuck.
 use Rattle.std.proofs.Common.{◌≡◌, ℕ, ◌+◌, ◌-◌, ◌<◌, ℤ, IsTrue, List, [], ◌∷◌, ◌++◌, length, Some, refl, sym, ap, subst, ◌∙◌, inl, arith}
 use Rattle.std.specs.Prelude.{slice_get}
-use Rattle.std.proofs.lemmas.Option.{same_Some}
-use Rattle.affc_ast.specs.declared.tree.ArrayId.{ArrayId}
+use Rattle.std.proofs.lemmas.Option.{same_Some, slice_get_within}
 use Rattle.affc_ast.specs.declared.tree.Instance.{Instance}
 use Rattle.affc_ast.specs.declared.tree.Program.{Program}
 use Rattle.affc_ast.specs.Store.{Element}
@@ -10,11 +9,11 @@ use Rattle.affc_ast.specs.Trace.{assignments, trace, loads_of, store_of}
 use Rattle.affc_trace.specs.Dataflow.{IsSource}
 use Rattle.affc_trace.specs.Law.{IsIn}
 use Rattle.affc_trace.specs.Laws.{IsInContext}
-use Rattle.affc_trace.proofs.Runs.{length_append}
+use Rattle.affc_trace.proofs.Runs.{length_append, slice_left}
 use Rattle.affc_domain.specs.Plain.{IsPlain}
 use Rattle.affc_domain.specs.Ranges.{number_ranges}
 use Rattle.affc_domain.specs.Arrays.{declared_arrays}
-use Rattle.affc_domain.proofs.Lists.{length_map}
+use Rattle.affc_domain.proofs.Lists.{length_map, place_of, stands_in, there_is, to_mapped}
 use Rattle.affc_domain.proofs.RangeLemmas.{box_length, in_ranges}
 use Rattle.affc_safe.specs.Safe.{LoadsWritten}
 use Rattle.affc_safe.proofs.Accesses.{touches_are_accesses}
@@ -25,7 +24,6 @@ use Rattle.affc_nest.specs.declared.nest.Access.{Access}
 use Rattle.affc_nest.specs.declared.nest.Entry.{Entry}
 use Rattle.affc_nest.specs.Laws.{HasNest, NamesArrays, element_at}
 use Rattle.affc_nest.specs.Nests.{nest_of}
-use Rattle.affc_nest.proofs.QuestionLemmas.{place_of, stands_in, there_is, below_length}
 use Rattle.affc_sched.proofs.LegalLemmas.{instance_of, events_are, stood}
 use Rattle.affc_bounds.specs.Laws.{IsStuckAt}
 use Rattle.affc_quast.specs.Sources.{loads_in}
@@ -33,7 +31,6 @@ use Rattle.affc_quast.specs.Trees.{Tree}
 use Rattle.affc_dataflow.specs.Finds.{NameAllAt}
 use Rattle.affc_flow.specs.Questions.{is_temporary}
 use Rattle.affc_dataflow.specs.Unwritten.{LoadsUnwritten}
-use Rattle.affc_flow.proofs.FlowLemmas.{mapped_at, front_at}
 use Rattle.affc_driver.proofs.Roles.{HasRoles, temporary_far, far_temporary}
 
 -- the access of the nest that stands for a load of an instance
@@ -57,11 +54,11 @@ load_at program p b load x has inside runs loaded =
     let its_load : slice_get (loads_of program p here) load ≡ Some x = subst (λ i. slice_get (loads_of program p i) load ≡ Some x) (sym same) loaded in
     let count : length e.accesses ≡ length (loads_of program p here) + 1 =
     sym (length_map (element_at (p ++ b.iterators)) e.accesses) ∙ ap length events ∙ length_append (loads_of program p here) (store_of program p here ∷ []) in
-    let small : load < length (loads_of program p here) = below_length (loads_of program p here) load x its_load in
+    let small : load < length (loads_of program p here) = slice_get_within (loads_of program p here) load x its_load in
     let a = there_is e.accesses load (omega (arith, count, small)) in
     let element : element_at (p ++ b.iterators) a.0 ≡ x =
     same_Some (element_at (p ++ b.iterators) a.0) x
-    (sym (mapped_at (element_at (p ++ b.iterators)) e.accesses load a.0 a.1) ∙ ap (λ es. slice_get es load) events ∙ front_at (loads_of program p here) (store_of program p here ∷ []) load x its_load) in
+    (sym (to_mapped (element_at (p ++ b.iterators)) e.accesses load a.0 a.1) ∙ ap (λ es. slice_get es load) events ∙ slice_left (loads_of program p here) (store_of program p here ∷ []) load x its_load) in
     record {
       entry = e;
       there = subst (λ s. slice_get (nest_of program).entries s ≡ Some e) r.1 r.2.at;
@@ -93,17 +90,9 @@ loads_written program p trees has names roles inside all b x runs loads far =
 -- ---- One isn't
 
 -- then the program isn't safe
-pub unwritten_is_stuck : (program : Program) (access : ℕ) (p : List ℤ) (b : Instance) → IsPlain program → HasRoles program → LoadsUnwritten program access p b → IsStuckAt program p
-unwritten_is_stuck program access p b plain roles u = record {
+pub unwritten_is_stuck : (program : Program) (array access : ℕ) (p : List ℤ) (b : Instance) → IsPlain program → HasRoles program → LoadsUnwritten program array access p b → IsStuckAt program p
+unwritten_is_stuck program array access p b plain roles u = record {
   some = some_store_fits program p u.context;
   stuck = λ store fits. unsafe_is_stuck program p store (plain_has_no_locals program plain) fits
       (unwritten_instance program p b u.element u.runs (stands_in (loads_of program p b) access u.element u.loaded) (temporary_far program roles u.element.0 u.temporary) u.none);
 }
-
--- its access is of the element's array
-pub array_read : (program : Program) (access : ℕ) (p : List ℤ) (b : Instance) (array : ArrayId) → HasNest program → (u : LoadsUnwritten program access p b)
-    → ((e : Entry) (x : Access) → slice_get (nest_of program).entries b.statement ≡ Some e → slice_get e.accesses access ≡ Some x → array ≡ x.array)
-    → array.0 ≡ u.element.0
-array_read program access p b array has u found =
-    let load = load_at program p b access u.element has u.context u.runs u.loaded in
-    ap (λ (a : ArrayId). a.0) (found load.entry load.access load.there load.at) ∙ load.of_array

@@ -2,6 +2,7 @@
 use Rattle.std.specs.Prelude.{◌≡◌, ◌⊎◌, ℕ, ◌<◌, nat_le, Bool, true, false, if◌then◌else◌, List, Option, Some, None, option_map}
 use Rattle.affc_ast.specs.declared.tree.Program.{Program}
 use Rattle.affc_trace.specs.declared.schedule.Schedule.{Schedule}
+use Rattle.affc_domain.specs.Ranges.{first_wide}
 use Rattle.affc_split.specs.Budgets.{Account}
 use Rattle.affc_nest.specs.Nests.{nest_of}
 use Rattle.affc_bounds.specs.threshold.Thresholds.{threshold}
@@ -50,9 +51,10 @@ pub record FoldsMade (Answers : List ℕ → ℕ → Type 0) (source : List ℕ)
   pub at_cost : FoldsAtCost Answers source schedule left made.done.text.items made.done.report.items made.done.cost
   pub certified : HasCertificate wanted (nest_of at_cost.folds_with.folds_to.compiles.source) at_cost.folds_with.folds_to.plan (option_map (λ text. text.items) made.certificate) at_cost.folds_with.folds_to.folds
 
--- the limit is below the threshold of the program and the plan that are read
+-- the program that is read is within the interval rule, and the limit is below its threshold with the plan
 pub record IsShort (source : List ℕ) (schedule : Option (List ℕ)) (limit : Option ℕ) : Type 0 where
   pub of : IsPlanned source schedule
+  pub near : first_wide of.tree ≡ None
   pub most : ℕ
   pub limited : limit ≡ Some most
   pub below : most < threshold (nest_of of.tree) of.plan.schedule

@@ -31,7 +31,7 @@ use Rattle.affc_weigh.specs.Costs.{NeverFalls}
 use Rattle.affc_weigh.specs.Laws.{IsStoredCost}
 use Rattle.affc_life.specs.Folding.{given_for}
 use Rattle.affc_folds.specs.Folding.{AreFoldsUnder, IsLeftWhole, HasBound}
-use Rattle.affc_folds.specs.Laws.{IsListedFold, IsSettled}
+use Rattle.affc_folds.specs.Laws.{AnswersModuli, IsListedFold, IsSettled}
 use Rattle.affc_schedtext.specs.declared.plan.Plan.{Plan}
 use Rattle.affc_bounds.specs.Faults.{StaysWithin}
 use Rattle.affc_bounds.specs.Laws.{IsStuckAt}
@@ -39,7 +39,7 @@ use Rattle.affc_bounds.specs.declared.fault.MeaningFault.{MeaningFault}
 use Rattle.affc_bounds.specs.declared.fault.MeaningFault.TheVariants.{IteratorRange, Context, Extent, Bounds}
 use Rattle.affc_quast.specs.Trees.{Tree}
 use Rattle.affc_legal.specs.Violations.{IsViolation}
-use Rattle.affc_driver.specs.Accounts.{IsUnlimited, FoldsWith, IsShort}
+use Rattle.affc_driver.specs.Accounts.{free, IsUnlimited, FoldsWith, IsShort}
 use Rattle.affc_driver.specs.Flows.{NameThroughout, FlowsTo}
 use Rattle.affc_driver.specs.Folds.{FoldsTo}
 use Rattle.affc_driver.specs.Plans.{HasPlan, LegalThroughout, WrittenThroughout}
@@ -88,14 +88,18 @@ TextsRunTightly Answers = (text : List ℕ) (schedule : Option (List ℕ)) (budg
     → (length_of_time : ℕ) (maps : List TimeMap) (e : Scheduled) → r.plan.schedule ≡ Time length_of_time maps → scheduled r.compiles.source maps ≡ e ∷ [] → r.scanned.loose.items ≡ []
     → RunsTightly r.compiles.source (folded_program r.compiles.source r.folds) maps e r.compiles.target
 
--- Without a limit on what is spent, or with one of at least the threshold, each temporary has a fold, no modulus is a bound alone, and no
--- price of a basis is missing.
+-- Each temporary has a fold, no modulus is a bound alone, and no price of a basis is missing.
+abbrev pub AreFull : Program → List (ArrayId × Fold) → List (ArrayId × Choice) → Type 0
+AreFull program folds choices =
+    (¬ (IsLeftWhole program folds))
+    × ((array : ℕ) (fold : Fold) → fold_of folds array ≡ Some fold → ¬ (HasBound fold))
+    × ((array : ℕ) (fold : Fold) (choice : Choice) (j : ℕ) → fold_of folds array ≡ Some fold → choice_of choices array ≡ Some choice → slice_get choice.prices j ≢ Some None)
+
+-- So it is without a limit on what is spent, or with one of at least the threshold.
 abbrev pub UnlimitedFoldsAll : (Answers : List ℕ → ℕ → Type 0) → Type 0
 UnlimitedFoldsAll Answers = (text : List ℕ) (schedule : Option (List ℕ)) (left : Account) (folded report : List ℕ) (r : FoldsWith Answers text schedule left folded report)
     → IsUnlimited r.folds_to.compiles.source r.folds_to.plan.schedule left.limit
-    → (¬ (IsLeftWhole r.folds_to.compiles.source r.folds_to.folds))
-    × ((array : ℕ) (fold : Fold) → fold_of r.folds_to.folds array ≡ Some fold → ¬ (HasBound fold))
-    × ((array : ℕ) (fold : Fold) (choice : Choice) (j : ℕ) → fold_of r.folds_to.folds array ≡ Some fold → choice_of r.folds_to.choices array ≡ Some choice → slice_get choice.prices j ≢ Some None)
+    → AreFull r.folds_to.compiles.source r.folds_to.folds r.folds_to.choices
 
 -- Where the schedule gives no basis for a temporary, all its moduli are marked and no price of another basis is missing, no other
 -- large enough fold over a listed basis costs less.
@@ -146,10 +150,20 @@ pub record IsFoldable (text : List ℕ) (schedule : Option (List ℕ)) : Type 0 
   pub planned : HasPlan program schedule plan
   pub legal : LegalThroughout program plan.schedule
 
--- Exactly such a text has one that it is folded to, whatever is left of a budget.
+-- What a text is folded to where nothing is limited: each temporary along the basis that the schedule gives for it, or else the cheapest
+-- that is listed, by the least moduli and with their marks.
+pub record FoldsFully (Answers : List ℕ → ℕ → Type 0) (text : List ℕ) (schedule : Option (List ℕ)) (folded report : List ℕ) : Type 0 where
+  pub folds_to : FoldsTo Answers text schedule free folded report
+  pub full : AreFull folds_to.compiles.source folds_to.folds folds_to.choices
+
+-- Exactly such a text has one that it is so folded to, by a stored cost that answers to all moduli.
 abbrev pub FoldableIsFolded : (Answers : List ℕ → ℕ → Type 0) → Type 0
-FoldableIsFolded Answers = (text : List ℕ) (schedule : Option (List ℕ))
-    → IsFoldable text schedule ↔ ((budget : Account) × ((folded : List ℕ) × ((report : List ℕ) × FoldsTo Answers text schedule budget folded report)))
+FoldableIsFolded Answers = AnswersModuli Answers → (text : List ℕ) (schedule : Option (List ℕ))
+    → IsFoldable text schedule ↔ ((folded : List ℕ) × ((report : List ℕ) × FoldsFully Answers text schedule folded report))
+
+-- Whatever is left of a budget, and by any stored cost, no other text has one.
+abbrev pub FoldedIsFoldable : (Answers : List ℕ → ℕ → Type 0) → Type 0
+FoldedIsFoldable Answers = (text : List ℕ) (schedule : Option (List ℕ)) (budget : Account) (folded report : List ℕ) → FoldsTo Answers text schedule budget folded report → IsFoldable text schedule
 
 -- It is refused, if at all, for want of budget or of memory.
 abbrev pub FoldableIsNotRefused : Type 0

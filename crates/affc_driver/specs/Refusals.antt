@@ -80,8 +80,7 @@ pub record HasMeaningFault (source : List ℕ) (schedule : Option (List ℕ)) (f
 pub record HasUnwritten (source : List ℕ) (schedule : Option (List ℕ)) (array access : ℕ) (p : List ℤ) (instance : Instance) : Type 0 where
   pub of : IsPlanned source schedule
   pub within : StaysWithin of.tree
-  pub loads : LoadsUnwritten of.tree access p instance
-  pub of_array : array ≡ loads.element.0
+  pub loads : LoadsUnwritten of.tree array access p instance
 
 -- the program has nothing wrong with it, and at p this is the first dependence that the plan's schedule turns round
 pub record IsIllegal (source : List ℕ) (schedule : Option (List ℕ)) (p : List ℤ) (a b : Instance) : Type 0 where

@@ -1,5 +1,5 @@
 //! What a compilation's answers say of a source and of its runs. Each law is the contract of a function that does nothing.
-ghost use Rattle.affc_driver.specs.Laws.{ReadsNamingArrays, CompilesItself, WithinNeverStuck, NamedIsWritten, PrintedCompiles, TextsRunTightly, UnlimitedFoldsAll, NoneIsCheaper, FaultsShow, UnwrittenShows, IllegalShows, FoldableIsFolded, FoldableIsNotRefused, UnlimitedIsNotRefused, FlowsAreSound, SoundIsNotRefused};
+ghost use Rattle.affc_driver.specs.Laws.{ReadsNamingArrays, CompilesItself, WithinNeverStuck, NamedIsWritten, PrintedCompiles, TextsRunTightly, UnlimitedFoldsAll, NoneIsCheaper, FaultsShow, UnwrittenShows, IllegalShows, FoldableIsFolded, FoldedIsFoldable, FoldableIsNotRefused, UnlimitedIsNotRefused, FlowsAreSound, SoundIsNotRefused};
 
 use affc_foldprint::laws::{folds_compile, folds_keep_times, folds_run_tightly, folds_well_named};
 use affc_loopends::bounding::laws::programs_scan;
@@ -67,7 +67,7 @@ pub fn illegal_shows()
     ensures law { IllegalShows }
 {}
 
-/// A text is folded exactly where its program is never stuck, and its schedule is legal.
+/// Exactly a text whose program is never stuck, and whose schedule is legal, has one that it is folded to where nothing is limited.
 pub fn foldable_is_folded<C: Costing>()
     ensures law { FoldableIsFolded C.answers }
 {
@@ -77,6 +77,11 @@ pub fn foldable_is_folded<C: Costing>()
     folds_well_named();
     folds_compile();
 }
+
+/// Whatever is left of a budget, no other text has one.
+pub fn folded_is_foldable<C: Costing>()
+    ensures law { FoldedIsFoldable C.answers }
+{}
 
 /// Such a text is refused for want of budget or of memory, and for nothing else, by `fold`, with a certificate or without.
 pub fn foldable_is_not_refused()

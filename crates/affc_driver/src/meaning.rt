@@ -1,10 +1,8 @@
 //! What is wrong with a program by itself, whatever its schedule: how it uses its arrays, and then its dataflow.
-ghost use Rattle.std.specs.Prelude.{◌≡◌, ◌≢◌, IfOk, OnOk, IfErr, Some, None, slice_get};
+ghost use Rattle.std.specs.Prelude.{◌≡◌, ◌≢◌, IfOk, OnOk, IfErr, Some, None};
 ghost use Rattle.affc_domain.specs.Plain.{IsPlain};
 ghost use Rattle.affc_domain.specs.Ranges.{first_wide};
 ghost use Rattle.affc_split.specs.Budgets.{IsLater};
-ghost use Rattle.affc_nest.specs.declared.nest.Access.{Access as NestAccess};
-ghost use Rattle.affc_nest.specs.declared.nest.Entry.{Entry as NestEntry};
 ghost use Rattle.affc_nest.specs.Laws.{NamesArrays};
 ghost use Rattle.affc_nest.specs.Nests.{nest_of};
 ghost use Rattle.affc_bounds.specs.Faults.{StaysWithin};
@@ -16,7 +14,7 @@ ghost use Rattle.affc_driver.specs.Programs.{OfEachPlan};
 ghost use Rattle.affc_driver.specs.Refusals.{MeaningSays};
 
 use crate::refusal::Refusal;
-use affc_ast::tree::{ArrayId, Program};
+use affc_ast::tree::Program;
 use affc_bounds::{Halt, check, nest};
 use affc_dataflow::{FlowStop, find};
 use affc_nest::Nest;
@@ -84,19 +82,6 @@ pub(crate) fn nest_within(
     Ok(nest)
 }
 
-// The array of an access.
-fn array_of(nest: &Nest, statement: u32, access: u32) -> ArrayId
-    ensures { (e : NestEntry) (x : NestAccess) → slice_get nest.now.entries statement ≡ Some e → slice_get e.accesses access ≡ Some x → result ≡ x.array }
-{
-    let Some(entry) = nest.entries.get(statement as usize) else {
-        return ArrayId(0);
-    };
-    match entry.accesses.get(access as usize) {
-        Some(access) => access.array,
-        None => ArrayId(0),
-    }
-}
-
 /// The last-write trees of a program that keeps to its arrays, where each load of a temporary is written before.
 pub(crate) fn trees_within(
     alloc: Global,
@@ -119,19 +104,17 @@ pub(crate) fn trees_within(
         Ok(flow) => Ok(flow),
         Err(
             FlowStop::Unwritten {
-                access,
-                p,
-                instance,
-            },
-        ) => {
-            let array = array_of(nest, instance.statement, access);
-            Err(Refusal::Unwritten {
                 array,
                 access,
                 p,
                 instance,
-            })
-        }
+            },
+        ) => Err(Refusal::Unwritten {
+            array,
+            access,
+            p,
+            instance,
+        }),
         Err(FlowStop::Budget) => Err(Refusal::Budget),
         Err(FlowStop::Memory) => Err(Refusal::Memory),
     }

@@ -1,5 +1,5 @@
 -- The systems of products, by the choices of their factors.
-use Rattle.std.proofs.Common.{◌≡◌, ◌≢◌, ℕ, ◌+◌, ◌-◌, ◌*◌, ◌≤◌, ◌<◌, ℤ, List, [], ◌∷◌, ◌++◌, length, take, drop, Bool, true, false, IsTrue, map, flat_map, get_or, append_assoc, refl, sym, ap, ap₂, subst, ◌∙◌, arith, length-append}
+use Rattle.std.proofs.Common.{◌≡◌, ◌≢◌, ℕ, ◌+◌, ◌-◌, ◌*◌, ◌≤◌, ◌<◌, ℤ, List, [], ◌∷◌, ◌++◌, length, take, drop, map, flat_map, get_or, append_assoc, refl, sym, ap, ap₂, subst, ◌∙◌, arith, length-append}
 use Rattle.std.specs.List.{All, AllByRecursion as Each}
 use Rattle.std.proofs.lemmas.List.{map-append, take_all}
 use Rattle.std.proofs.lemmas.List.Elements.{All-nil, All-cons, All-head, All-tail}
@@ -10,20 +10,14 @@ use Rattle.affc_system.specs.declared.pairs.PairSystem.{PairSystem}
 use Rattle.affc_split.specs.declared.maximum.region.Region.{Region}
 use Rattle.affc_conflicts.specs.Conditions.{IsConflict}
 use Rattle.affc_products.specs.Products.{choices}
-use Rattle.affc_products.proofs.ChoiceLemmas.{Chosen, tallest_within}
+use Rattle.affc_products.proofs.ChoiceLemmas.{tallest_within}
 use Rattle.affc_life.specs.declared.clash.ClashProduct.{ClashProduct}
 use Rattle.affc_life.specs.Products.{systems_in}
+use Rattle.affc_life.proofs.LimitLemmas.{all_first, all_second}
+use Rattle.affc_life.proofs.KeptLemmas.{alternatives_there}
 use Rattle.affc_folds.specs.Systems.{IsVoid, IsOver, KeepsRoom, chosen_system, choices_behind}
 
 -- ---- Lists
-
-all_first : {X : Type 0} (P : X → Type 0) (xs ys : List X) → All P (xs ++ ys) → All P xs
-all_first P [] ys h = All-nil P
-all_first P (x ∷ xs) ys h = All-cons P x xs (All-head P x (xs ++ ys) h) (all_first P xs ys (All-tail P x (xs ++ ys) h))
-
-all_second : {X : Type 0} (P : X → Type 0) (xs ys : List X) → All P (xs ++ ys) → All P ys
-all_second P [] ys h = h
-all_second P (x ∷ xs) ys h = all_second P xs ys (All-tail P x (xs ++ ys) h)
 
 all_mapped : {X Y : Type 0} (P : Y → Type 0) (f : X → Y) (xs : List X) → ((x : X) → P (f x)) → All P (map f xs)
 all_mapped P f [] h = All-nil P
@@ -33,10 +27,6 @@ all_mapped P f (x ∷ xs) h = All-cons P (f x) (map f xs) (h x) (all_mapped P f 
 pub first_rest : {X : Type 0} (xs : List X) (x y : X) → 1 ≤ length xs → x ≡ get_or xs 0 x → y ≡ x → xs ≡ y ∷ take (length xs - 1) (drop 1 xs)
 first_rest [] x y l a b = absurd (omega (arith, l))
 first_rest (z ∷ xs) x y l a b = ap₂ (λ u us. u ∷ us) (sym (b ∙ a)) (sym (take_all (length (z ∷ xs) - 1) xs (omega arith)))
-
-pub not_true : (b : Bool) → b ≡ false → IsTrue b → ⊥
-not_true true e h = absurd (cc)
-not_true false e h = absurd (cc)
 
 -- ---- The systems behind some rows
 
@@ -83,11 +73,6 @@ weight_is fs f rest e = omega (arith, ap weight e)
 no_maps : (us : List (List Affine)) → flat_map (λ u. map (λ v. u ++ v) []) us ≡ []
 no_maps [] = refl
 no_maps (u ∷ us) = no_maps us
-
-alternatives_there : (fs : List (List (List Affine))) → choices fs ≢ [] → Chosen fs
-alternatives_there [] n = tt
-alternatives_there ([] ∷ fs) n = absurd (n refl)
-alternatives_there ((u ∷ us) ∷ fs) n = (omega arith, alternatives_there fs (λ e. n (ap (λ cs. flat_map (λ u. map (λ v. u ++ v) cs) (u ∷ us)) e ∙ no_maps (u ∷ us))))
 
 module _ (context : Rows) (ranges : List (ℤ × ℤ)) (extents : List Affine) where
   rooms : (base : PairSystem) (rows : List Affine) (cs : List (List Affine)) → All (IsConflict context ranges extents) (map (with_more base rows) cs) → Each (λ v. length rows + length v ≤ 1024) cs

@@ -270,7 +270,7 @@ folds_of_blur = (
   λ h. spent_or_not.1 (h.whole left_whole),
   λ h. spent_or_not.1 ((its_choice (three_of 2) [] (marked 3 (Some (pos 0 ∷ [], pos 2 ∷ []))) 3 None h).taken.prices.each 0 (columns (column 1 0 ∷ [])) None refl refl),
   λ h. three_is_enough.2 (λ p here. h.obeys p here 2 (onto 2) refl 0 x0 (number 2) refl refl),
-  λ h. marks_of_the_blur.4 (h.marks 2 (least 4) refl 0 x0 (marked 4 (Some (pos 0 ∷ [], pos 2 ∷ []))) refl refl),
+  λ h. marks_of_the_blur.5 (h.marks 2 (least 4) refl 0 x0 (marked 4 (Some (pos 0 ∷ [], pos 2 ∷ []))) refl refl),
   λ h. four_not_three (cost_is (three_of 2) (record { cost = 4; number = 0; prices = price (3 ∷ []) 3 ∷ [] }) (its_choice (three_of 2) [] (marked 3 (Some (pos 0 ∷ [], pos 2 ∷ []))) 4 (price (3 ∷ []) 3) h)),
   λ h. no_choice (three_of 2) h,
   λ h. other_basis (ap (λ s. Some s) (sym (its_choice (three_of 2) (given_to 2 turned ∷ []) (marked 3 (Some (pos 0 ∷ [], pos 2 ∷ []))) 3 (price (3 ∷ []) 3) h).taken.0)),

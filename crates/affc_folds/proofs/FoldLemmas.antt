@@ -17,11 +17,11 @@ use Rattle.affc_domain.specs.Ranges.{number_ranges}
 use Rattle.affc_basis.specs.declared.fold.Fold.{Fold}
 use Rattle.affc_basis.specs.Folds.{forms_of, KeepsLimits, Obeys}
 use Rattle.affc_basis.specs.Moduli.{Exceeds, IsModulus}
+use Rattle.affc_domain.proofs.RangeLemmas.{numbers_are}
 use Rattle.affc_nest.specs.declared.nest.ArrayInfo.{ArrayInfo}
 use Rattle.affc_nest.specs.declared.nest.Nest.{Nest}
 use Rattle.affc_nest.specs.Nests.{nest_of}
 use Rattle.affc_order.specs.Asked.{IsScheduled}
-use Rattle.affc_order.proofs.TimeLemmas.{numbers_are}
 use Rattle.affc_quast.specs.Trees.{Tree}
 use Rattle.affc_conflicts.specs.Conditions.{InContext, IsNear, IsConflict}
 use Rattle.affc_life.specs.Asked.{KeepLimits}

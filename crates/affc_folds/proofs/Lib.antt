@@ -6,3 +6,6 @@ pub mod KeptLemmas
 pub mod ChoiceLemmas
 pub mod TryLemmas
 pub mod AgainLemmas
+pub mod Needs
+pub mod Spans
+pub mod AllFolds

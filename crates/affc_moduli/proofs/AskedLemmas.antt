@@ -124,18 +124,6 @@ tie_of asked way w found most point n v p inside attained positive =
     (subst (λ i. slice_get asked.given.pairs.now i ≡ Some way.system.now) (sym n) w.system) (subst (λ i. slice_get asked.regions.now i ≡ Some way.region.now) (sym n) w.region) w.distance
     (subst (InRegion way.region.now) (sym p) inside) (ap (value way.form.now) p ∙ attained ∙ sym v) (subst (λ (u : ℤ). pos 1 ≤ℤ u) (sym v) positive)
 
--- nothing is known yet
-pub begun_sought : (asked : AskedRow) (aim : Aim) (s : Sought) → s.level ≡ aim.start → s.best ≡ None → IsSoughtOf asked aim.start s
-begun_sought asked aim s e b = record {
-  natural = subst (λ (v : ℤ). pos 0 ≤ℤ v) (sym e) aim.natural;
-  near = subst (λ (v : ℤ). unsigned_abs v ≤ 2 ^ 55) (sym e) (start_near aim.start aim.natural aim.near);
-  best = subst (λ (o : Option Candidate). IfSome o (λ c. IsTie asked.given.pairs.now asked.regions.now asked.line.row.now.coefs s.level c.found)) (sym b) tt;
-  none = subst (λ (o : Option Candidate). IfNone o (s.level ≡ aim.start)) (sym b) e;
-}
-  where
-    start_near : (v : ℤ) → pos 0 ≤ℤ v → v ≤ℤ pos (2 ^ 53) → unsigned_abs v ≤ 2 ^ 55
-    start_near v h k = omega (arith, ints)
-
 -- what is known with a candidate more
 pub joined_sought : (asked : AskedRow) (start : ℤ) (s : Sought) (c : Candidate) (after : Sought) → IsSoughtOf asked start s → IsTie asked.given.pairs.now asked.regions.now asked.line.row.now.coefs c.found.value c.found
     → unsigned_abs c.found.value ≤ 2 ^ 55 → IsJoined s c after → IsSoughtOf asked start after

@@ -3,15 +3,8 @@ use Rattle.std.proofs.Common.{ℕ, ◌+◌, ◌*◌, ◌^◌, ◌≤◌, List, [
 use Rattle.std.specs.Prelude.{unsigned_abs}
 use Rattle.std.specs.List.{All}
 use Rattle.std.proofs.lemmas.List.Elements.{All-head, All-tail}
-use Rattle.std.proofs.Math.Nat.{mul-le-mul_left, mul_comm}
 use Rattle.affc_rows.specs.Forms.{Affine, mixed_magnitudes, mixed_form_magnitudes, entry_magnitude, TooWide}
-
--- the magnitude of a multiple
-times : (n : ℕ) (c d : ℤ) (b : ℕ) → unsigned_abs c ≤ n → unsigned_abs d ≤ b → unsigned_abs c * unsigned_abs d ≤ n * b
-times n c d b h k =
-    let p : unsigned_abs c * unsigned_abs d ≤ unsigned_abs c * b = mul-le-mul_left (unsigned_abs c) k in
-    let q : b * unsigned_abs c ≤ b * n = mul-le-mul_left b h in
-    omega (arith, p, q, mul_comm b n, mul_comm b (unsigned_abs c))
+use Rattle.affc_conflicts.proofs.differences.Mixtures.{times}
 
 entry_bound : (n : ℕ) (a c d : ℤ) (m b : ℕ) → unsigned_abs c ≤ n → unsigned_abs a ≤ m → unsigned_abs d ≤ b → entry_magnitude (pos 1) a c d ≤ m + n * b
 entry_bound n a c d m b h k l = omega (arith, times n c d b h l)

@@ -1,27 +1,24 @@
 -- A modulus as a form over more columns.
-use Rattle.std.proofs.Common.{◌≡◌, ℕ, zero, suc, ◌+◌, ◌-◌, ◌*◌, ◌^◌, ◌<◌, ◌≤◌, List, [], ◌∷◌, ◌++◌, length, take, replicate, ℤ, pos, negsuc, ◌+ℤ◌, ◌-ℤ◌, ◌*ℤ◌, refl, sym, ap, subst, ◌∙◌, arith, lit≤, ◌⊎◌, inl, inr}
+use Rattle.std.proofs.Common.{◌≡◌, ℕ, zero, suc, ◌+◌, ◌-◌, ◌*◌, ◌^◌, ◌<◌, ◌≤◌, List, [], ◌∷◌, length, take, replicate, ℤ, pos, negsuc, ◌+ℤ◌, ◌-ℤ◌, refl, sym, ap, subst, ◌∙◌, arith, lit≤, ◌⊎◌, inl, inr}
 use Rattle.std.specs.Prelude.{unsigned_abs, slice_get, get_or}
 use Rattle.std.specs.List.{All}
 use Rattle.std.proofs.lemmas.List.{length-append, length-replicate}
 use Rattle.std.proofs.lemmas.List.Elements.{All-append, All-replicate, All-weaker}
 use Rattle.affc_rows.specs.Vocabulary.{padded}
-use Rattle.affc_rows.specs.Forms.{Affine, dot, value, mixed, mixed_form, mixed_form_magnitudes, TooWide}
+use Rattle.affc_rows.specs.Forms.{Affine, value, mixed, mixed_form, mixed_form_magnitudes, TooWide}
 use Rattle.affc_rows.proofs.ValueLemmas.{length-mixed}
-use Rattle.affc_conflicts.proofs.differences.Mixtures.{dot-zeros, mixed_within, entry_within, value_minus}
+use Rattle.affc_domain.proofs.FormLemmas.{dot_zeros}
+use Rattle.affc_conflicts.proofs.differences.Mixtures.{mixed_within, entry_within, value_minus}
 use Rattle.affc_split.specs.maximum.Regions.{IsMeasure}
 use Rattle.affc_basis.specs.Moduli.{IsModulus}
+use Rattle.affc_conflicts.proofs.Distances.{dot-widened}
 use Rattle.affc_moduli.specs.Enough.{IsBelow, AreBelow, AreBelowBefore, IsComparable, AreComparable}
 use Rattle.affc_moduli.proofs.Fits.{form_fits}
 use Rattle.affc_split.specs.declared.maximum.region.Region.{Region}
 use Rattle.std.proofs.lemmas.Option.{same_Some, slice_get_read, slice_get_within}
 
-dot-padded : (cs : List ℤ) (m : ℕ) (z : List ℤ) → dot (cs ++ replicate m (pos 0)) z ≡ dot cs (take (length cs) z)
-dot-padded [] m z = dot-zeros m z
-dot-padded (c ∷ cs) m [] = refl
-dot-padded (c ∷ cs) m (x ∷ xs) = ap (λ v. (c *ℤ x) +ℤ v) (dot-padded cs m xs)
-
 value-padded : (columns : ℕ) (b : Affine) (z : List ℤ) → value (padded columns b) z ≡ value b (take (length b.coefs) z)
-value-padded columns b z = ap (λ v. v +ℤ b.constant) (dot-padded b.coefs (columns - length b.coefs) z)
+value-padded columns b z = ap (λ v. v +ℤ b.constant) (dot-widened b.coefs (columns - length b.coefs) z)
 
 width_of : (columns : ℕ) (b : Affine) → length b.coefs ≤ columns → length (padded columns b).coefs ≡ columns
 width_of columns b h =

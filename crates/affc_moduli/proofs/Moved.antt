@@ -17,15 +17,15 @@ use Rattle.affc_basis.specs.declared.fold.Mark.{Mark}
 use Rattle.affc_basis.specs.declared.fold.Modulus.{Modulus}
 use Rattle.affc_basis.specs.Moduli.{IsModulus}
 use Rattle.affc_basis.specs.Folds.{IsEnough, IsTrueOf}
+use Rattle.affc_domain.proofs.FormLemmas.{dot_zeros}
 use Rattle.affc_conflicts.specs.Conditions.{InContext, IsConflict}
+use Rattle.affc_conflicts.proofs.Decided.{all_at}
 use Rattle.affc_moduli.specs.Ready.{AreReady}
 use Rattle.affc_moduli.specs.Slices.{AreSlices}
 use Rattle.affc_moduli.specs.Distances.{AreForward, AreBackward, IsDifference}
 use Rattle.affc_moduli.specs.Enough.{IsComparable, AreComparable, IsSuitable}
 use Rattle.affc_moduli.specs.Rows.{IsDone}
 use Rattle.affc_moduli.proofs.Covers.{some_at}
-use Rattle.affc_moduli.proofs.Whole.{all_at}
-use Rattle.affc_moduli.proofs.Rows.{dot-zeros}
 use Rattle.affc_moduli.proofs.Step.{wide}
 use Rattle.affc_moduli.proofs.Proposed.{enough_by, marks_move}
 
@@ -41,7 +41,7 @@ plus_nothing v c e = omega (arith, ints)
 -- a form without slopes is its constant
 value_of_flat : (f : Affine) (n : ℕ) (p : List ℤ) → f.coefs ≡ replicate n (pos 0) → value f p ≡ f.constant
 value_of_flat f n p e =
-    let d : dot f.coefs p ≡ pos 0 = ap (λ (cs : List ℤ). dot cs p) e ∙ dot-zeros n p in
+    let d : dot f.coefs p ≡ pos 0 = ap (λ (cs : List ℤ). dot cs p) e ∙ dot_zeros n p in
     plus_nothing (dot f.coefs p) f.constant d
 
 below_flat : (v need c u : ℤ) → v ≤ℤ need → need ≡ c → u ≡ c → v ≤ℤ u

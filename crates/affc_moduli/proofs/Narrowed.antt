@@ -1,5 +1,5 @@
 -- How slices are begun and narrowed.
-use Rattle.std.proofs.Common.{◌≡◌, ℕ, suc, zero, ◌+◌, ◌*◌, ◌<◌, ◌≤◌, ◌⊎◌, inl, inr, List, [], ◌∷◌, ◌++◌, length, ℤ, pos, neg_ℤ, ◌≤ℤ◌, refl, sym, ap, subst, ◌∙◌, arith}
+use Rattle.std.proofs.Common.{◌≡◌, ℕ, suc, zero, ◌+◌, ◌*◌, ◌<◌, ◌≤◌, inl, inr, List, [], ◌∷◌, ◌++◌, length, ℤ, pos, neg_ℤ, ◌≤ℤ◌, refl, sym, ap, subst, ◌∙◌, arith}
 use Rattle.std.specs.Prelude.{unsigned_abs, slice_get, Some}
 use Rattle.std.specs.List.{All}
 use Rattle.std.proofs.lemmas.Int.{ints}
@@ -20,6 +20,7 @@ use Rattle.affc_moduli.specs.Slices.{InSliceAt, IsSlice, AreSlices, AreCopies, I
 use Rattle.affc_moduli.specs.Distances.{AreForward, AreBackward, IsDifference, HaveDimensions}
 use Rattle.affc_moduli.proofs.Apart.{apart-dot, apart-turned}
 use Rattle.affc_moduli.proofs.Covers.{some_at}
+use Rattle.affc_moduli.proofs.Lifted.{before_or_at}
 
 -- ---- the slice of row 0
 
@@ -60,12 +61,6 @@ at_least_zero a u h e = omega (arith, ints)
 
 at_least_turned : (a u : ℤ) → unsigned_abs a ≡ 0 → u ≡ neg_ℤ a → pos 0 ≤ℤ u
 at_least_turned a u h e = omega (arith, ints)
-
-before_or_at : (j k : ℕ) → j < k + 1 → (j < k) ⊎ (j ≡ k)
-before_or_at zero zero h = inr refl
-before_or_at zero (suc k) h = inl (omega arith)
-before_or_at (suc j) zero h = absurd (omega arith)
-before_or_at (suc j) (suc k) h = elim (before_or_at j k (omega arith)) [ inl l ↦ inl (omega arith) | inr e ↦ inr (ap suc e) ]
 
 module _ (context : Rows) (ranges : List (ℤ × ℤ)) (rows : List Affine) (k : ℕ) (row : Affine) (at_row : slice_get rows k ≡ Some row) (s : PairSystem) (f g : Affine)
     (wide : (length s.x.items ≡ length row.coefs) × (length s.y.items ≡ length row.coefs))

@@ -1,8 +1,7 @@
 -- Distances the other way round: forms with their signs turned.
-use Rattle.std.proofs.Common.{◌≡◌, ℕ, zero, suc, ◌<◌, ◌≤◌, ◌*◌, ◌^◌, List, [], ◌∷◌, length, ℤ, neg_ℤ, ◌+ℤ◌, ◌*ℤ◌, refl, sym, ap, subst, ◌∙◌, arith}
+use Rattle.std.proofs.Common.{◌≡◌, ℕ, zero, suc, ◌<◌, ◌≤◌, ◌*◌, ◌^◌, List, [], ◌∷◌, length, ℤ, neg_ℤ, ◌*ℤ◌, refl, sym, ap, subst, ◌∙◌, arith}
 use Rattle.std.specs.Prelude.{map, slice_get, get_or, Some, unsigned_abs}
 use Rattle.std.specs.List.{All}
-use Rattle.std.proofs.lemmas.Int.{ints}
 use Rattle.std.proofs.lemmas.Option.{same_Some, slice_get-get_or}
 use Rattle.std.proofs.lemmas.List.Elements.{All-map, All-weaker}
 use Rattle.affc_rows.specs.Forms.{Affine, dot, value}
@@ -10,24 +9,20 @@ use Rattle.affc_rows.specs.Vocabulary.{opposite, HasOpposite}
 use Rattle.affc_rows.proofs.IntLemmas.{neg-mul}
 use Rattle.affc_rows.proofs.VocabularyLemmas.{within_opposite}
 use Rattle.affc_system.specs.declared.pairs.PairSystem.{PairSystem}
+use Rattle.affc_domain.proofs.Lists.{neg_size}
 use Rattle.affc_conflicts.specs.differences.Differences.{IsSmall}
+use Rattle.affc_conflicts.proofs.Turned.{both_turned}
 use Rattle.affc_moduli.specs.Distances.{IsForward, IsBackward, AreForward, AreBackward}
 use Rattle.affc_moduli.proofs.Apart.{apart-turned}
 use Rattle.affc_moduli.proofs.Covers.{some_at}
 
-same_size : (c : ℤ) → unsigned_abs (neg_ℤ c) ≡ unsigned_abs c
-same_size c = omega (arith, ints)
-
-both_signs : (a b c d : ℤ) → a ≡ neg_ℤ b → c ≡ neg_ℤ d → a +ℤ c ≡ neg_ℤ (b +ℤ d)
-both_signs a b c d h k = omega (arith, ints)
-
 dot-negated : (xs z : List ℤ) → dot (map neg_ℤ xs) z ≡ neg_ℤ (dot xs z)
 dot-negated [] z = refl
 dot-negated (x ∷ xs) [] = refl
-dot-negated (x ∷ xs) (v ∷ vs) = both_signs (neg_ℤ x *ℤ v) (x *ℤ v) (dot (map neg_ℤ xs) vs) (dot xs vs) (neg-mul x v) (dot-negated xs vs)
+dot-negated (x ∷ xs) (v ∷ vs) = both_turned (neg_ℤ x *ℤ v) (x *ℤ v) (dot (map neg_ℤ xs) vs) (dot xs vs) (neg-mul x v) (dot-negated xs vs)
 
 value-negated : (f : Affine) (z : List ℤ) → value (opposite f) z ≡ neg_ℤ (value f z)
-value-negated f z = both_signs (dot (map neg_ℤ f.coefs) z) (dot f.coefs z) (neg_ℤ f.constant) f.constant (dot-negated f.coefs z) refl
+value-negated f z = both_turned (dot (map neg_ℤ f.coefs) z) (dot f.coefs z) (neg_ℤ f.constant) f.constant (dot-negated f.coefs z) refl
 
 same_length : (xs : List ℤ) → length (map neg_ℤ xs) ≡ length xs
 same_length [] = refl
@@ -37,8 +32,8 @@ small_negated : (columns n : ℕ) (f : Affine) → IsSmall columns n f → IsSma
 small_negated columns n f small = record {
   width = same_length f.coefs ∙ small.width;
   coefs_fit = All-map (λ c. unsigned_abs c ≤ n * 2 ^ 25) neg_ℤ f.coefs
-      (All-weaker (λ c. unsigned_abs c ≤ n * 2 ^ 25) (λ c. unsigned_abs (neg_ℤ c) ≤ n * 2 ^ 25) (λ c h. subst (λ m. m ≤ n * 2 ^ 25) (sym (same_size c)) h) f.coefs small.coefs_fit);
-  constant_fits = subst (λ m. m ≤ n * 2 ^ 33) (sym (same_size f.constant)) small.constant_fits;
+      (All-weaker (λ c. unsigned_abs c ≤ n * 2 ^ 25) (λ c. unsigned_abs (neg_ℤ c) ≤ n * 2 ^ 25) (λ c h. subst (λ m. m ≤ n * 2 ^ 25) (sym (neg_size c)) h) f.coefs small.coefs_fit);
+  constant_fits = subst (λ m. m ≤ n * 2 ^ 33) (sym (neg_size f.constant)) small.constant_fits;
 }
 
 turned : (cs : List ℤ) (s : PairSystem) (f : Affine) → IsForward cs s f → IsBackward cs s (opposite f)

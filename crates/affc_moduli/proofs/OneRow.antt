@@ -10,10 +10,10 @@ use Rattle.affc_system.specs.Systems.{Rows, IsRow, Meets, IsPoint}
 use Rattle.affc_system.specs.declared.pairs.PairSystem.{PairSystem}
 use Rattle.affc_split.specs.maximum.Regions.{InRegion}
 use Rattle.affc_split.specs.declared.maximum.region.Region.{Region}
+use Rattle.affc_domain.proofs.FormLemmas.{dot_zeros}
 use Rattle.affc_moduli.specs.Slices.{AreSlices}
 use Rattle.affc_moduli.specs.Reduced.{IsReduced, AreReduced, below_zero}
 use Rattle.affc_moduli.proofs.Covers.{some_at}
-use Rattle.affc_moduli.proofs.Rows.{dot-zeros}
 
 pub below_zero_row : (n : ℕ) (f : Affine) → f ≡ below_zero n → IsRow n f
 below_zero_row n f e = subst (λ (g : Affine). IsRow n g) (sym e) (record {
@@ -25,7 +25,7 @@ negative : (d : ℤ) → d ≡ pos 0 → pos 0 ≤ℤ (d +ℤ negsuc 0) → ⊥
 negative d e h = omega (arith, ints)
 
 met_nowhere : (n : ℕ) (z : List ℤ) → Meets z (below_zero n) → ⊥
-met_nowhere n z h = negative (dot (replicate n (pos 0)) z) (dot-zeros n z) h
+met_nowhere n z h = negative (dot (replicate n (pos 0)) z) (dot_zeros n z) h
 
 -- a region without a point
 pub emptied : (region r : Region) (n : ℕ) → r.system ≡ record { columns = n; rows = below_zero n ∷ [] } → n ≡ region.system.columns → 1 ≤ length region.system.rows → ((z : List ℤ) → InRegion region z → ⊥) → IsReduced region r

@@ -7,14 +7,12 @@ use Rattle.affc_rows.specs.Forms.{Affine, dot, value}
 use Rattle.affc_rows.proofs.IntLemmas.{neg-mul}
 use Rattle.affc_system.specs.Systems.{Meets}
 use Rattle.affc_rows.specs.Vocabulary.{AreOpposite}
+use Rattle.affc_conflicts.proofs.Decided.{all_at}
+use Rattle.affc_conflicts.proofs.Turned.{both_turned}
 use Rattle.affc_moduli.specs.Barred.{IsBarredAt}
-use Rattle.affc_moduli.proofs.Whole.{all_at}
 
 other_sign : (x y : ℤ) → x +ℤ y ≡ pos 0 → x ≡ neg_ℤ y
 other_sign x y e = omega (arith, ints)
-
-both_signs : (a b c d : ℤ) → a ≡ neg_ℤ b → c ≡ neg_ℤ d → a +ℤ c ≡ neg_ℤ (b +ℤ d)
-both_signs a b c d h k = omega (arith, ints)
 
 dot-opposite : (xs ys z : List ℤ) → AreOpposite xs ys → dot xs z ≡ neg_ℤ (dot ys z)
 dot-opposite [] [] z h = refl
@@ -22,7 +20,7 @@ dot-opposite [] (y ∷ ys) z h = absurd h
 dot-opposite (x ∷ xs) [] z h = absurd h
 dot-opposite (x ∷ xs) (y ∷ ys) [] h = refl
 dot-opposite (x ∷ xs) (y ∷ ys) (v ∷ vs) h =
-    both_signs (x *ℤ v) (y *ℤ v) (dot xs vs) (dot ys vs) (ap (λ u. u *ℤ v) (other_sign x y h.0) ∙ neg-mul y v) (dot-opposite xs ys vs h.1)
+    both_turned (x *ℤ v) (y *ℤ v) (dot xs vs) (dot ys vs) (ap (λ u. u *ℤ v) (other_sign x y h.0) ∙ neg-mul y v) (dot-opposite xs ys vs h.1)
 
 at_most : (r f c d : ℤ) → r ≡ neg_ℤ f → pos 0 ≤ℤ (r +ℤ c) → (f +ℤ d) ≤ℤ (c +ℤ d)
 at_most r f c d e h = omega (arith, ints)

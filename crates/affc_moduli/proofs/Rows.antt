@@ -2,11 +2,12 @@
 use Rattle.std.proofs.Common.{◌≡◌, ℕ, ◌+◌, ◌≤◌, inl, inr, List, [], ◌∷◌, length, take, replicate, ℤ, pos, ◌≤ℤ◌, ◌<ℤ◌, zero, suc, refl, sym, ap, subst, ◌∙◌, arith}
 use Rattle.std.specs.Prelude.{unsigned_abs, slice_get, Some, None}
 use Rattle.std.proofs.lemmas.Int.{ints}
-use Rattle.affc_rows.specs.Forms.{Affine, dot, value, values_of}
+use Rattle.affc_rows.specs.Forms.{Affine, value, values_of}
 use Rattle.affc_system.specs.Systems.{Rows}
 use Rattle.affc_system.specs.declared.pairs.PairSystem.{PairSystem}
 use Rattle.affc_split.specs.maximum.Regions.{InRegion}
 use Rattle.affc_split.specs.declared.maximum.region.Region.{Region}
+use Rattle.affc_domain.proofs.FormLemmas.{dot_zeros}
 use Rattle.affc_conflicts.specs.differences.Differences.{apart}
 use Rattle.affc_basis.specs.Slices.{along, InSlice}
 use Rattle.affc_basis.specs.Folds.{IsEnough, IsLeastMark}
@@ -17,16 +18,11 @@ use Rattle.affc_moduli.specs.Distances.{AreApartWithin, HaveDimensions}
 use Rattle.affc_moduli.proofs.Apart.{apart-dot}
 use Rattle.affc_moduli.proofs.Covers.{covered, in_slice}
 
-pub dot-zeros : (n : ℕ) (xs : List ℤ) → dot (replicate n (pos 0)) xs ≡ pos 0
-dot-zeros zero xs = refl
-dot-zeros (suc n) [] = refl
-dot-zeros (suc n) (x ∷ xs) = omega (arith, ints, dot-zeros n xs)
-
 abbrev pub number : (parameters n : ℕ) → Affine
 number parameters n = record { coefs = replicate parameters (pos 0); constant = pos n }
 
 pub value_of_number : (parameters n : ℕ) (p : List ℤ) → value (number parameters n) p ≡ pos n
-value_of_number parameters n p = omega (arith, ints, dot-zeros parameters p)
+value_of_number parameters n p = omega (arith, ints, dot_zeros parameters p)
 
 positive : (v : ℤ) (n : ℕ) → v ≡ pos (n + 1) → pos 1 ≤ℤ v
 positive v n h = omega (arith, ints)

@@ -11,11 +11,11 @@ use Rattle.affc_split.specs.maximum.Regions.{InRegion, AreAskable}
 use Rattle.affc_split.specs.declared.maximum.region.Region.{Region}
 use Rattle.affc_conflicts.specs.differences.Differences.{apart}
 use Rattle.affc_conflicts.specs.Conditions.{IsConflict}
+use Rattle.affc_conflicts.proofs.Decided.{all_at}
 use Rattle.affc_moduli.specs.Ready.{AreReady}
 use Rattle.affc_moduli.specs.Slices.{AreSlices, AreNarrowed}
 use Rattle.affc_moduli.specs.Distances.{AreForward, AreBackward, AreOver, HaveDimensions}
 use Rattle.affc_moduli.proofs.Covers.{some_at}
-use Rattle.affc_moduli.proofs.Whole.{all_at}
 use Rattle.affc_moduli.proofs.Narrowed.{all_narrowed}
 use Rattle.affc_moduli.proofs.Ceiling.{askable_forward, askable_backward, room, row_of, apart_bound, lies_near, near_extents}
 

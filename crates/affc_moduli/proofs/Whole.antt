@@ -2,9 +2,9 @@
 use Rattle.std.proofs.Common.{◌≡◌, ◌≢◌, inl, inr, ℕ, zero, suc, ◌+◌, ◌<◌, List, [], ◌∷◌, ◌++◌, length, drop, add-one, arith, ℤ, pos, ◌≤ℤ◌, ◌<ℤ◌, refl, sym, ap, ap₂, subst, ◌∙◌}
 use Rattle.std.specs.Prelude.{slice_get, get_or, Some}
 use Rattle.std.specs.List.{All}
-use Rattle.std.proofs.lemmas.Option.{same_Some, slice_get_within, slice_get-get_or}
+use Rattle.std.proofs.lemmas.Option.{slice_get-get_or}
 use Rattle.std.proofs.lemmas.List.{append_assoc}
-use Rattle.std.proofs.lemmas.List.Elements.{All-map, All-get_or}
+use Rattle.std.proofs.lemmas.List.Elements.{All-map}
 use Rattle.affc_rows.specs.Forms.{Affine, value, values_of}
 use Rattle.affc_system.specs.Systems.{Rows}
 use Rattle.affc_system.specs.declared.pairs.PairSystem.{PairSystem}
@@ -15,18 +15,11 @@ use Rattle.affc_basis.specs.Moduli.{Exceeds, Separates, IsModulus}
 use Rattle.affc_basis.specs.Folds.{forms_of}
 use Rattle.affc_basis.proofs.Separation.{separated}
 use Rattle.affc_system.specs.ElementPairs.{IsPairAt, IsPairOf}
+use Rattle.affc_domain.proofs.ColumnLemmas.{values_long}
 use Rattle.affc_conflicts.specs.Conditions.{InContext, IsConflict}
+use Rattle.affc_conflicts.proofs.Decided.{all_at, modulus_at}
 use Rattle.affc_moduli.specs.Rows.{AreKept}
 use Rattle.affc_moduli.proofs.Covers.{some_at, place_of}
-
-form_at : (ms : List Modulus) (k : ℕ) (b : Affine) → slice_get (forms_of ms) k ≡ Some b → (m : Modulus) × (slice_get ms k ≡ Some m) × (m.form ≡ b)
-form_at [] k b e = cc
-form_at (m ∷ ms) zero b e = (m, refl, same_Some m.form b e)
-form_at (m ∷ ms) (suc k) b e = form_at ms k b e
-
-values_length : (fs : List Affine) (z : List ℤ) → length (values_of fs z) ≡ length fs
-values_length [] z = refl
-values_length (f ∷ fs) z = ap suc (values_length fs z)
 
 -- the values of the forms from a place on: that of the one there, and those behind it
 values_at : (fs : List Affine) (z : List ℤ) (i : ℕ) (d : Affine) → i < length fs → values_of (drop i fs) z ≡ value (get_or fs i d) z ∷ values_of (drop (suc i) fs) z
@@ -49,7 +42,7 @@ module _ (context : Rows) (ranges : List (ℤ × ℤ)) (rows extents : List Affi
 
   pub obeys : (p : List ℤ) → InContext context ranges p → Exceeds (IsPairOf systems p) p rows (forms_of ms)
   obeys p here k row b at at_b =
-      let m = form_at ms k b at_b in
+      let m = modulus_at ms k b at_b in
       let enough = (done k row m.0 at m.1).enough p here in
       subst (λ (f : Affine). (pos 1 ≤ℤ value f p) × ((x y : List ℤ) → InSlice (IsPairOf systems p) rows k x y → pos (along row x y) <ℤ value f p)) m.2 enough
 
@@ -63,8 +56,8 @@ module _ (context : Rows) (ranges : List (ℤ × ℤ)) (rows extents : List Affi
   proper_at : (s : PairSystem) (p x y : List ℤ) → IsConflict context ranges extents s → length extents ≡ length rows → IsPairAt s p x y → (x ≢ y) × (length x ≡ length rows) × (length y ≡ length rows)
   proper_at s p x y conflict same pair = (
     λ e. conflict.differ pair.point pair.meets (pair.first ∙ e ∙ sym pair.second),
-    ap length (sym pair.first) ∙ values_length s.x.items pair.point ∙ conflict.x_each ∙ same,
-    ap length (sym pair.second) ∙ values_length s.y.items pair.point ∙ conflict.y_each ∙ same,
+    ap length (sym pair.first) ∙ values_long s.x.items pair.point ∙ conflict.x_each ∙ same,
+    ap length (sym pair.second) ∙ values_long s.y.items pair.point ∙ conflict.y_each ∙ same,
   )
 
   pub proper : (p x y : List ℤ) → ((i : ℕ) (s : PairSystem) → slice_get systems i ≡ Some s → IsConflict context ranges extents s) → length extents ≡ length rows → IsPairOf systems p x y
@@ -75,14 +68,6 @@ module _ (context : Rows) (ranges : List (ℤ × ℤ)) (rows extents : List Affi
         let q = proper_at pair.system p y x (conflicts (place_of systems pair.system pair.there).0 pair.system (place_of systems pair.system pair.there).1) same e in
         ((λ f. q.0 (sym f)), q.2, q.1)
   ]
-
-pub all_at : {X : Type 0} (P : X → Type 0) (xs : List X) → All P xs → (i : ℕ) (x : X) → slice_get xs i ≡ Some x → P x
-all_at P xs all i x e =
-    let h = slice_get_within xs i x e in
-    subst P (get_back xs i x e) (All-get_or P xs i x h all)
-  where
-    get_back : {X : Type 0} (xs : List X) (i : ℕ) (x : X) → slice_get xs i ≡ Some x → get_or xs i x ≡ x
-    get_back xs i x e = same_Some (get_or xs i x) x (sym (slice_get-get_or xs i x (slice_get_within xs i x e)) ∙ e)
 
 pub admissible : (context : Rows) (ranges : List (ℤ × ℤ)) (extents : List Affine) (basis : Basis) (systems : List PairSystem) (ms : List Modulus) → AreKept context ranges systems basis.rows ms → length ms ≡ length basis.rows
     → All (IsConflict context ranges extents) systems → length extents ≡ length basis.rows → (p : List ℤ) → InContext context ranges p → Separates (IsPairOf systems p) p basis.rows (forms_of ms)

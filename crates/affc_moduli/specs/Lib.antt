@@ -8,3 +8,4 @@ pub mod Shown
 pub mod Ended
 pub mod Barred
 pub mod Asked
+pub mod Examples

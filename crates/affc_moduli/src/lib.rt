@@ -7,6 +7,7 @@ mod ceilings;
 mod chosen;
 mod distances;
 mod enough;
+pub mod examples;
 mod extremes;
 pub mod fold;
 mod forms;

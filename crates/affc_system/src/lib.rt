@@ -11,4 +11,4 @@ pub mod system;
 pub use boxes::{BoxOf, interval};
 pub use order::is_at_most;
 pub use pairs::PairSystem;
-pub use system::{RowFault, System, fits_row, value_at};
+pub use system::{RowFault, System, are_rows, fits_row, is_row, value_at};

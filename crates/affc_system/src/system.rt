@@ -77,6 +77,27 @@ pub fn fits_row(row: &Form) -> bool
             .all(|c| c.unsigned_abs() <= MOST_COEFFICIENT)
 }
 
+/// Whether a row is over so many columns, within the limits of a system's rows.
+pub fn is_row(columns: u32, row: &Form) -> bool
+    ensures { IsTrue result ↔ IsRow columns row.now }
+{
+    row.coefs.len() == columns as usize && fits_row(row)
+}
+
+/// Whether each row is. The recursion is into halves, since there may be many.
+pub fn are_rows(columns: u32, rows: &[Form]) -> bool
+    ensures { IsTrue result ↔ All (IsRow columns) rows.now }
+{
+    match rows {
+        [] => true,
+        [row] => is_row(columns, row),
+        _ => {
+            let (first, others) = rows.split_at(rows.len() / 2);
+            are_rows(columns, first) && are_rows(columns, others)
+        }
+    }
+}
+
 /// The sum with one product more, of a coefficient within the limits and any `i64`.
 fn with_term(sum: Total, c: i128, x: i64) -> Total
     requires small { unsigned_abs c ≤ 2 ^ 40 }

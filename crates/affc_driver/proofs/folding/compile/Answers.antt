@@ -40,7 +40,7 @@ pub returns-clause-short : goal.returns-clause-short
 returns-clause-short g c =
     let left = c.compile_counted.new.budget in
     let few = test_is c.args.program.now c.in-Ok.nest c.args.plan.now.schedule c.args.budget.now.limit left.limit c.is_plenty.result false c.in-Ok.ensures.nest c.is_plenty.ensures c.if-is_plenty.false c.compile_counted.ensures.later.limit in
-    IfErr-weaker c.compile_counted.result _ _ (λ refusal stop spent. is_short c.args.program.now c.args.plan.now left.limit left.spent (stop spent) few) c.compile_counted.ensures.stop
+    IfErr-weaker c.compile_counted.result _ _ (λ refusal stop spent. is_short c.args.program.now c.args.plan.now left.limit left.spent c.in-Ok.ensures.near (stop spent) few) c.compile_counted.ensures.stop
 
 pub returns-clause-plenty : goal.returns-clause-plenty
 returns-clause-plenty g c enough =

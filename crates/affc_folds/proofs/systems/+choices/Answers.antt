@@ -4,9 +4,10 @@ use Rattle.std.proofs.lemmas.List.Elements.{All-head, All-tail}
 use Rattle.std.proofs.lemmas.Result.{IfOk-weaker}
 use Rattle.affc_system.specs.Systems.{IsRow}
 use Rattle.affc_products.specs.Products.{tallest}
+use Rattle.affc_moduli.proofs.Ties.{not_true}
 use Rattle.affc_folds.specs.Systems.{Adds, choices_behind}
 use Rattle.affc_folds.proofs.KeptLemmas.{all_passed, both_added}
-use Rattle.affc_folds.proofs.ChoiceLemmas.{first_rest, not_true, weight_is, choices_more, void_over}
+use Rattle.affc_folds.proofs.ChoiceLemmas.{first_rest, weight_is, choices_more, void_over}
 use Rattle.affc_folds.proofs.systems.+choices.Goals.{add_behind-then-branch+in_ok-add_factors, add_behind-else-branch}
 use Rattle.affc_folds.proofs.systems.+choices.Goals as goal
 

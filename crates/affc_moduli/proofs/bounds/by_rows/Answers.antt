@@ -2,7 +2,7 @@ use Rattle.std.proofs.Common.{◌≡◌, length, refl, arith, subst}
 use Rattle.std.specs.Prelude.{slice_get, Some}
 use Rattle.std.proofs.lemmas.Option.{slice_get_read}
 use Rattle.affc_system.specs.Systems.{IsRow, Meets}
-use Rattle.affc_moduli.proofs.Whole.{all_at}
+use Rattle.affc_conflicts.proofs.Decided.{all_at}
 use Rattle.affc_moduli.proofs.bounds.by_rows.Goals as goal
 
 pub lowered-bound-requires-clause-row : goal.lowered-bound-requires-clause-row

@@ -2,11 +2,12 @@ use Rattle.std.proofs.Common.{◌≡◌, ◌<◌, length, sym, subst}
 use Rattle.std.specs.Prelude.{IfOk}
 use Rattle.std.proofs.lemmas.Option.{slice_get_within}
 use Rattle.affc_conflicts.specs.Conditions.{IsConflict}
+use Rattle.affc_conflicts.proofs.Decided.{all_at}
 use Rattle.affc_moduli.specs.Slices.{AreSlices}
 use Rattle.affc_moduli.specs.Rows.{AreKept}
 use Rattle.affc_moduli.proofs.Covers.{some_at}
 use Rattle.affc_moduli.proofs.Narrowed.{begun}
-use Rattle.affc_moduli.proofs.Whole.{limits, obeys, admissible, all_at}
+use Rattle.affc_moduli.proofs.Whole.{limits, obeys, admissible}
 use Rattle.affc_moduli.proofs.Results.{both}
 use Rattle.affc_moduli.proofs.fold.moduli.Goals as goal
 

@@ -2,7 +2,7 @@ use Rattle.std.proofs.Common.{◌≡◌, length, refl, ap, arith, subst}
 use Rattle.std.specs.Prelude.{slice_get, Some}
 use Rattle.std.proofs.lemmas.Option.{slice_get_read}
 use Rattle.affc_system.specs.Systems.{IsRow}
-use Rattle.affc_moduli.proofs.Whole.{all_at}
+use Rattle.affc_conflicts.proofs.Decided.{all_at}
 use Rattle.affc_moduli.proofs.keys.barring_by_key.Goals as goal
 
 pub bars-requires-clause-other : goal.bars-requires-clause-other

@@ -5,7 +5,8 @@ use Rattle.std.proofs.lemmas.Int.{to_z-of_z}
 use Rattle.std.proofs.lemmas.Option.{slice_get_read}
 use Rattle.affc_rows.specs.Forms.{Affine, value}
 use Rattle.affc_system.specs.Pairs.{IsSubscript}
-use Rattle.affc_moduli.proofs.Whole.{all_at, one_value_more}
+use Rattle.affc_conflicts.proofs.Decided.{all_at}
+use Rattle.affc_moduli.proofs.Whole.{one_value_more}
 use Rattle.affc_moduli.proofs.row.element.Goals as goal
 
 pub subscript_at-requires : goal.subscript_at-requires

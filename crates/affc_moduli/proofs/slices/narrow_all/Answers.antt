@@ -4,9 +4,9 @@ use Rattle.std.proofs.lemmas.Option.{slice_get_read, same_Some}
 use Rattle.affc_rows.specs.Forms.{Affine}
 use Rattle.affc_system.specs.Systems.{IsRow}
 use Rattle.affc_split.specs.declared.maximum.region.Region.{Region}
+use Rattle.affc_conflicts.proofs.Decided.{all_at}
 use Rattle.affc_moduli.specs.Slices.{IsNarrowed, IsNarrowedAt}
 use Rattle.affc_moduli.proofs.Changed.{none_changed, changed_more, all_changed}
-use Rattle.affc_moduli.proofs.Whole.{all_at}
 use Rattle.affc_moduli.proofs.slices.narrow_all.Goals as goal
 
 pub loop-i-init : goal.loop-i-init
