@@ -4,3 +4,9 @@ pub mod Executed
 pub mod Reading
 pub mod Priced
 pub mod Causes
+pub mod Readings
+pub mod LawProofs
+pub mod Ranges
+pub mod RunProofs
+pub mod ExampleProofs
+pub mod LeftProofs

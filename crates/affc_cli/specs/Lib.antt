@@ -6,3 +6,5 @@ pub mod Refusal
 pub mod Big
 pub mod Promise
 pub mod Telling
+pub mod Laws
+pub mod Examples

@@ -1,8 +1,9 @@
 -- When a command is refused.
-use Rattle.std.specs.Prelude.{◌≡◌, ◌⊎◌, ℕ, List, Option, None, Some}
+use Rattle.std.specs.Prelude.{◌≡◌, ◌⊎◌, ℕ, ◌≤◌, List, length, Option, None, Some}
 use Rattle.affc_io.specs.Count.{Rose}
 use Rattle.affc_io.specs.Files.{Holds, NotHeld, TooLong}
 use Rattle.affc_io.specs.State.{Files, FolderState}
+use Rattle.affc_io.specs.declared.folder.TheConstants.{LONGEST_READ}
 use Rattle.affc_driver.specs.Accounts.{IsShort}
 use Rattle.affc_words.specs.declared.words.Settings.{Settings}
 use Rattle.affc_driver.specs.Refusals.{IsSourceFault, IsPrinted}
@@ -53,9 +54,9 @@ pub record TextRefused (refusal : Refusal) (held : Option Files) (source : List 
   pub texts : FoldTexts held source schedule
   pub cause : TextCause texts.source_text texts.schedule_text settings refusal
 
--- the source was read
+-- the source was read: what it holds is no longer than a read answers
 abbrev pub IsHeld : Option Files → (source : List ℕ) → Type 0
-IsHeld held source = (text : List ℕ) × Holds held source text
+IsHeld held source = (text : List ℕ) × Holds held source text × (length text ≤ LONGEST_READ)
 
 -- the schedule's name, and why it isn't read, from the folder before and after
 abbrev pub IsUnreadAny : UnreadWhy → (name : Option (List ℕ)) → FolderState → FolderState → Type 0

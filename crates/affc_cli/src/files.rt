@@ -1,7 +1,8 @@
 //! Reading the files that a command names.
-ghost use Rattle.std.specs.Prelude.{◌≡◌, Some, None, IfOk, IfErr, OnOk, option_map};
+ghost use Rattle.std.specs.Prelude.{◌≡◌, ◌≤◌, length, Some, None, IfOk, IfErr, OnOk, option_map};
 ghost use Rattle.affc_io.specs.Files.{Holds};
 ghost use Rattle.affc_io.specs.State.{FolderKeeps};
+ghost use Rattle.affc_io.specs.declared.folder.TheConstants.{LONGEST_READ};
 ghost use Rattle.affc_words.specs.Command.{Fold, Replay, Run};
 ghost use Rattle.affc_cli.specs.Outside.{IsRead};
 ghost use Rattle.affc_cli.specs.Promise.{FoldPromises, ReplayPromises, RunPromises, FlowPromises};
@@ -28,6 +29,7 @@ fn contents_of<F: Folder>(
     ensures keeps { FolderKeeps (F.state folder.old) (F.state folder.new) }
     ensures reads { IsRead 1 (F.state folder.old) (F.state folder.new) }
     ensures ok { IfOk result (λ text. Holds (F.state folder.old).held name.now text.items) }
+    ensures fits { IfOk result (λ text. length text.items ≤ LONGEST_READ) }
     ensures err { IfErr result (λ refusal.
         UnheldCause file refusal name.now (F.state folder.old) (F.state folder.new)) }
 {

@@ -2,8 +2,10 @@
 #![tactic(auto)]
 
 mod big;
+pub mod examples;
 mod files;
 mod fold;
+pub mod laws;
 mod pieces;
 mod replay;
 mod run;

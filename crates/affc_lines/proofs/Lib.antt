@@ -5,3 +5,4 @@ pub mod Touched
 pub mod Iterators
 pub mod Meant
 pub mod Telling
+pub mod ExampleProofs

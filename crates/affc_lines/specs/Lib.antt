@@ -6,3 +6,4 @@ pub mod Certificate
 pub mod Lines
 pub mod Causes
 pub mod Told
+pub mod Examples

@@ -2,6 +2,7 @@
 #![tactic(auto)]
 
 mod certificate;
+pub mod examples;
 pub mod meaning;
 pub mod refusal;
 pub mod schedule;
