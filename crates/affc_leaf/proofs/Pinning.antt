@@ -114,15 +114,6 @@ pin_pinned columns bs j v p t l h =
 pub front_of_itself : (system : Rows) (bs : List Bound) → IsFront system bs bs
 front_of_itself system bs = record { within = λ x p. p; first = λ z p q. inl p }
 
-pub fronts_follow : (system : Rows) (a b d : List Bound) → IsFront system a b → IsFront system b d → IsFront system a d
-fronts_follow system a b d f g = record {
-  within = λ x p. f.within x (g.within x p);
-  first = λ z p q. elim (f.first z p q) [
-    | inl there ↦ g.first z there q
-    | inr behind ↦ inr (λ x m. behind x (g.within x m))
-  ];
-}
-
 pub other_bound : (bs : List Bound) (i : ℕ) (d e : Bound) → i < length bs → slice_index_or bs i d ≡ slice_index_or bs i e
 other_bound [] i d e h = absurd (omega (arith, h))
 other_bound (b ∷ bs) zero d e h = refl

@@ -1,10 +1,11 @@
 //! Cuts of sums of rows in a box, and leaves below such cuts.
 ghost use Rattle.std.specs.Prelude.{◌≡◌, ◌+◌, ◌-◌, ◌*◌, ◌^◌, ◌<◌, ◌≤◌, ◌∷◌, ◌++◌, [], pos, replicate, unsigned_abs, IfOk, IfSome, OnOk, Err, length};
 ghost use Rattle.std.specs.List.{All};
+ghost use Rattle.affc_system.specs.Systems.{FitsRow};
 ghost use Rattle.affc_farkas.specs.Multiples.{AreMultipliers};
 ghost use Rattle.affc_leaf.specs.Bounds.{IsBound};
 ghost use Rattle.affc_leaf.specs.BoxCuts.{without, IsBoxCut, IsEmptyWith, IsSeen, behind, sum_with};
-ghost use Rattle.affc_leaf.specs.Cuts.{IsCutBefore};
+ghost use Rattle.affc_leaf.specs.Cuts.{IsCutBefore, IsDivided};
 ghost use Rattle.affc_leaf.specs.Leaves.{corner_rows, SameSum};
 ghost use Rattle.affc_leaf.specs.Parts.{IsEmpty};
 
@@ -93,6 +94,42 @@ fn with_corners(
     Ok(Multipliers::from_pairs(pairs))
 }
 
+/// The part of a sum that a division leaves, and the row of what is divided.
+#[derive(Drop)]
+struct Divided {
+    part: Vec<i128>,
+    row: Form,
+}
+
+/// Takes the part of a sum that a division by `g` leaves out of it, at its greatest value over the box, and divides the rest. `None`
+/// where a number is too great.
+fn divided_in(
+    alloc: Global,
+    sum: &mut [i128],
+    constant: i128,
+    bounds: &[Bound],
+    g: i64,
+) -> Result<Option<Divided>, AllocError>
+    requires few { length bounds.now ≤ 128 }
+    requires ranges { All IsBound bounds.now }
+    ensures divided { IfOk result (λ o. IfSome o (λ d. IsDivided (without (record { coefs = sum.old; constant = constant }) d.part.items bounds.now) g d.row)) }
+    ensures fits { IfOk result (λ o. IfSome o (λ d. FitsRow d.row)) }
+    ensures width { IfOk result (λ o. IfSome o (λ d. length d.part.items ≡ length bounds.now)) }
+    ensures small { IfOk result (λ o. IfSome o (λ d. All (λ c. unsigned_abs c ≤ 2 ^ 53) d.part.items)) }
+{
+    let part = rest_of(alloc, sum, bounds, g)?;
+    let Some(rest) = take_out(sum, constant, part.as_slice(), bounds) else {
+        return Ok(None);
+    };
+    let Some(row) = divided_sum(alloc, sum, rest, g)? else {
+        return Ok(None);
+    };
+    if fits_row(&row) {
+        return Ok(Some(Divided { part, row }));
+    }
+    Ok(None)
+}
+
 /// The cut by `g` of these multiples of rows in a box. `None` where a number is too great.
 #[inline(never)]
 pub(crate) fn box_cut(
@@ -113,16 +150,9 @@ pub(crate) fn box_cut(
     let Some(first) = sum_rows(system, own, sum) else {
         return Ok(None);
     };
-    let part = rest_of(alloc, sum, bounds, g)?;
-    let Some(constant) = take_out(sum, first, part.as_slice(), bounds) else {
+    let Some(Divided { part, row }) = divided_in(alloc, sum, first, bounds, g)? else {
         return Ok(None);
     };
-    let Some(row) = divided_sum(alloc, sum, constant, g)? else {
-        return Ok(None);
-    };
-    if !fits_row(&row) {
-        return Ok(None);
-    }
     let Some(by) = with_corners(alloc, own, part.as_slice(), bounds)? else {
         return Ok(None);
     };

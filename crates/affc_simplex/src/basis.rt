@@ -164,17 +164,22 @@ impl Basis {
         Some(())
     }
 
+    /// Adds a multiple of a vector's shares to those of a later one, which has the vector itself as often more.
+    fn lessen_share(&mut self, less: i128, from: usize, k: usize) -> Option<()> {
+        self.shares.add_line(less, from, k)?;
+        let whole = less.checked_mul(1 << SHIFT)?;
+        let share = self.shares.at(k, from).checked_add(whole)?;
+        self.shares.put(k, from, share);
+        Some(())
+    }
+
     /// Takes a multiple of a vector out of a later one.
     fn take_out(&mut self, times: i128, from: usize, k: usize) -> Option<()> {
         let less = times.checked_neg()?;
         self.products.add_line(less, from, k)?;
         self.products.add_column(less, from, k)?;
         self.coordinates.add_line(times, k, from)?;
-        self.shares.add_line(less, from, k)?;
-        let whole = less.checked_mul(1 << SHIFT)?;
-        let share = self.shares.at(k, from).checked_add(whole)?;
-        self.shares.put(k, from, share);
-        Some(())
+        self.lessen_share(less, from, k)
     }
 
     /// Takes the nearest multiples of the vectors before a vector out of it. Answers whether it changes.

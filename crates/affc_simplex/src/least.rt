@@ -457,6 +457,19 @@ fn least_values<N: Number>(
     Values::Whole
 }
 
+/// The sum by which a column isn't less than its value. There is none at the low end of its range.
+fn sum_at<N: Number>(
+    alloc: Global,
+    settled: &Settled<'_, N>,
+    column: u32,
+    is_low: bool,
+) -> Result<Option<Vec<(u32, u64)>>, AllocError> {
+    if is_low {
+        return Ok(Some(Vec::new(alloc)));
+    }
+    sum_for(alloc, settled, column)
+}
+
 /// The sums by which no column is less.
 fn sums_for<N: Number>(
     alloc: Global,
@@ -465,12 +478,8 @@ fn sums_for<N: Number>(
 ) -> Result<Option<Vec<Vec<(u32, u64)>>>, AllocError> {
     let mut sums = Vec::with_capacity(alloc, point.len())?;
     for (j, (value, bound)) in point.iter().zip(settled.bounds.iter()).enumerate() {
-        let sum = if *value > bound.low {
-            sum_for(alloc, settled, u32::try_from(j).unwrap_or(0))?
-        } else {
-            Some(Vec::new(alloc))
-        };
-        let Some(sum) = sum else {
+        let column = u32::try_from(j).unwrap_or(0);
+        let Some(sum) = sum_at(alloc, settled, column, *value <= bound.low)? else {
             return Ok(None);
         };
         sums.push(sum)?;

@@ -196,6 +196,24 @@ fn look<N: Number>(
     }
 }
 
+/// The line with this number, if it is out of its range. `None` where a number doesn't fit.
+fn broken_at<N: Number>(
+    line: &[N],
+    number: usize,
+    variable: u32,
+    values: &[N],
+    bounds: &[Bound],
+) -> Option<Option<Broken<N>>> {
+    match way_of(line, variable, values, bounds)? {
+        Some((way, end)) => Some(Some(Broken {
+            line: number,
+            way,
+            end,
+        })),
+        None => Some(None),
+    }
+}
+
 /// The first line that is out of its range. `None` where a number doesn't fit.
 fn first_broken<N: Number>(tableau: &Tableau<N>, bounds: &[Bound]) -> Option<Option<Broken<N>>> {
     let columns = bounds.len();
@@ -203,12 +221,8 @@ fn first_broken<N: Number>(tableau: &Tableau<N>, bounds: &[Bound]) -> Option<Opt
     let (_, basics) = tableau.variables.as_slice().split_at_checked(columns)?;
     for (number, line) in lines.chunks_exact(width_of(columns)).enumerate() {
         let variable = *basics.get(number)?;
-        if let Some((way, end)) = way_of(line, variable, values, bounds)? {
-            return Some(Some(Broken {
-                line: number,
-                way,
-                end,
-            }));
+        if let Some(broken) = broken_at(line, number, variable, values, bounds)? {
+            return Some(Some(broken));
         }
     }
     Some(None)

@@ -2,3 +2,4 @@ pub mod Openings
 pub mod Answers
 pub mod ExampleProofs
 pub mod Spending
+pub mod Quotients

@@ -265,25 +265,6 @@ side_least system bs s High row x h none least = kept_least system bs s.column s
 
 -- ---- cuts and answers
 
-cut_nodes : (by : List (ℕ × ℕ)) (g : ℤ) (row : Affine) (rest p : Proof) → IsCutBefore by g row rest p → nodes p ≡ nodes rest + 1
-cut_nodes by g row rest (Leaf m) h = absurd h
-cut_nodes by g row rest (Cut' m k cut p after) h = ap (λ r. nodes r + 1) h.3
-cut_nodes by g row rest (Split' form at p low q high) h = absurd h
-
-more_nodes : (p q : ℕ) → q ≡ p + 1 → 0 + p < (q + 1) + 0
-more_nodes p q e = omega arith
-
--- a cut before the rest of a proof
-pub cut_searched : (part : Ranges) (a b : Account) (by : List (ℕ × ℕ)) (g : ℤ) (row : Affine) (p q : Box Proof Global) → IsCutBefore by g row p.value q.value
-    → Spends (AreFewer 0) 0 part a b (Ok (Empty p)) → Spends (AreFewer 0) 0 part a b (Ok (Empty q))
-cut_searched part a b by g row p q h s = record {
-  later = s.later;
-  cost = s.cost;
-  opened = roomier 0 0 0 part a b p (Empty q) (nodes q.value) (more_nodes (nodes p.value) (nodes q.value) (cut_nodes by g row p.value q.value h)) refl s.opened;
-  stop = tt;
-  short = tt;
-}
-
 pub empty_spends : (whole part : Ranges) (a b : Account) (p : Box Proof Global) (q : Proof) (f : Found) → part ≡ whole → f ≡ Empty p → q ≡ p.value
     → Spends (AreFewer 0) 0 part a b (Ok f) → Spends AreFewerFor 0 whole a b (Ok (answer.Empty q))
 empty_spends whole part a b p q f w e same s = record {

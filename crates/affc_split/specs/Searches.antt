@@ -1,8 +1,10 @@
 -- The boxes that the search of a part opens, and what it spends.
-use Rattle.std.specs.Prelude.{◌≡◌, ℕ, ◌+◌, ◌*◌, ◌<◌, ◌≤◌, List, length, ℤ, Some, Result, IfOk, IfErr}
+use Rattle.std.specs.Prelude.{◌≡◌, ℕ, ◌+◌, ◌*◌, ◌<◌, ◌≤◌, List, [], ◌∷◌, length, ℤ, Some, Result, IfOk, IfErr}
 use Rattle.std.specs.List.{All}
 use Rattle.affc_system.specs.Boxes.{IsBox, InBox}
+use Rattle.affc_leaf.specs.Cuts.{IsCutBefore}
 use Rattle.affc_leaf.specs.Points.{points}
+use Rattle.affc_leaf.specs.declared.cuts.Quotient.{Quotient}
 use Rattle.affc_split.specs.declared.budget.Stop.{Stop}
 use Rattle.affc_split.specs.declared.budget.Stop.TheVariants.{Budget}
 use Rattle.affc_split.specs.declared.search.Answer.{Answer}
@@ -51,3 +53,9 @@ HasNodes n (Point x) = ⊥
 abbrev pub IsBeside : ℕ → Found → Found → Type 0
 IsBeside n (Empty p) whole = HasNodes ((n + nodes p.value) + 1) whole
 IsBeside n (Point x) whole = whole ≡ Point x
+
+-- what is found without a cut, by what is found with it: the same point, or the cut before the proof
+abbrev pub IsBehind : Quotient → Found → Found → Type 0
+IsBehind cut (Point x) whole = whole ≡ Point x
+IsBehind cut (Empty p) (Point x) = ⊥
+IsBehind cut (Empty p) (Empty q) = IsCutBefore ((cut.number, 1) ∷ []) cut.g cut.row p.value q.value

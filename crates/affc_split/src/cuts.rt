@@ -1,14 +1,14 @@
 //! The search with the cuts of a system's rows.
-ghost use Rattle.std.specs.Prelude.{◌≡◌, ◌+◌, ◌-◌, ◌<◌, ◌≤◌, IfOk, length};
+ghost use Rattle.std.specs.Prelude.{◌≡◌, ◌+◌, ◌-◌, ◌<◌, ◌≤◌, IfOk, OnErr, Err, length};
 ghost use Rattle.affc_leaf.specs.Bounds.{ranges_of};
 ghost use Rattle.affc_leaf.specs.Parts.{Ready};
 ghost use Rattle.affc_split.specs.Search.{IsFound, IsReady};
-ghost use Rattle.affc_split.specs.Searches.{AreFewer, Spends};
+ghost use Rattle.affc_split.specs.Searches.{AreFewer, IsBehind, Spends};
 
 use crate::budget::{Budget, Stop};
 use crate::search::{Found, Here, SPARE, inside};
 use affc_leaf::box_cuts::{Seen, seen_at};
-use affc_leaf::cuts::{cut_proof, next_cut, push_cut};
+use affc_leaf::cuts::{Quotient, cut_proof, next_cut, push_cut};
 use affc_leaf::rounds::seen_by_rounds;
 use affc_simplex::Bound;
 use affc_system::System;
@@ -45,6 +45,22 @@ fn in_rounds(here: &Here<'_>, budget: &mut Budget) -> Result<Found, Stop>
     }
 }
 
+/// What is found without a cut, by what is found with it.
+#[inline(never)]
+fn behind_cut(alloc: Global, cut: Quotient, found: Found) -> Result<Found, Stop>
+    requires { cut.number < 1024 }
+    ensures behind { IfOk result (IsBehind cut found) }
+    ensures memory { OnErr result (result ≡ Err Stop.Memory) }
+{
+    match found {
+        Found::Point(point) => Ok(Found::Point(point)),
+        Found::Empty(rest) => {
+            let proof = cut_proof(alloc, cut, rest)?;
+            Ok(Found::Empty(proof))
+        }
+    }
+}
+
 /// Cuts each row, from a number on, that gains by it, and searches the box with the cuts.
 pub(crate) fn with_cuts(
     alloc: Global,
@@ -66,12 +82,9 @@ pub(crate) fn with_cuts(
         if let Some(cut) = next_cut(alloc, &system, from, count)? {
             let from = cut.number + 1;
             push_cut(&mut system, &cut)?;
-            return match with_cuts(alloc, system, bounds, from, count, next + 1, left, budget)? {
-                Found::Point(point) => Ok(Found::Point(point)),
-                Found::Empty(rest) => {
-                    let proof = cut_proof(alloc, cut, rest)?;
-                    Ok(Found::Empty(proof))
-                }
+            return match with_cuts(alloc, system, bounds, from, count, next + 1, left, budget) {
+                Ok(found) => behind_cut(alloc, cut, found),
+                Err(stop) => Err(stop),
             };
         }
     }

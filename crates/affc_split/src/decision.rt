@@ -265,6 +265,82 @@ fn searched(
     }
 }
 
+/// What is found of the whole box before it is searched: a leaf, or its least point.
+fn found_at_once(
+    alloc: Global,
+    system: &System,
+    ranges: &[(i64, i64)],
+    bounds: &[Bound],
+    next: u32,
+) -> Result<Option<Answer>, Stop>
+    requires columns { length ranges.now ≡ system.now.columns }
+    requires reach { All WithinReach ranges.now }
+    requires ranges { All IsBound bounds.now }
+    requires bounds { bounds.now ≡ box_bounds (length system.now.rows) ranges.now }
+    requires width { length bounds.now ≡ system.now.columns }
+    requires next { next ≡ length system.now.rows + 2 * system.now.columns }
+    ensures empty { IfOk result (λ o. IfSome o (λ a. IfEmpty a (λ p. ValidProof (with_box system.now ranges.now) p))) }
+    ensures plain { IfOk result (λ o. IfSome o (λ a. IfEmpty a SplitsAtZero)) }
+    ensures leaf { IfOk result (λ o. IfSome o (λ a. IfEmpty a (λ p. IsLeafProof p ⊎ IsHard (with_box system.now ranges.now)))) }
+    ensures point { IfOk result (λ o. IfSome o (λ a. IfPoint a (IsLeastPoint system.now ranges.now))) }
+    ensures hard { length system.now.rows + 2 * system.now.columns ≤ 1024 → IfOk result (λ o. IfNone o (IsHard (with_box system.now ranges.now))) }
+    ensures memory { OnErr result (result ≡ Err Stop.Memory) }
+{
+    let sight = whole_sight(alloc, system, ranges, bounds, next)?;
+    let WholeSight {
+        leaf,
+        vertex,
+        least,
+    } = sight;
+    if let Some(leaf) = leaf {
+        return Ok(Some(Answer::Empty(leaf)));
+    }
+    if let Some(point) = least {
+        return Ok(Some(Answer::Point(point)));
+    }
+    match eliminated(alloc, system, ranges, vertex.as_ref(), next)? {
+        Some(leaf) => Ok(Some(Answer::Empty(leaf))),
+        None => Ok(None),
+    }
+}
+
+/// The decision after the whole box is opened, where its low corner is no point.
+fn behind_corner(
+    alloc: Global,
+    system: &System,
+    ranges: &[(i64, i64)],
+    bounds: &[Bound],
+    budget: &mut Budget,
+) -> Result<Answer, Stop>
+    requires columns { length ranges.now ≡ system.now.columns }
+    requires reach { All WithinReach ranges.now }
+    requires bounds { bounds.now ≡ box_bounds (length system.now.rows) ranges.now }
+    requires ready { Ready system.now.columns bounds.now (length system.now.rows + 2 * system.now.columns) (62 * system.now.columns) }
+    requires count { size bounds.now ≡ points ranges.now }
+    ensures empty { IfOk result (λ a. IfEmpty a (λ p. ValidProof (with_box system.now ranges.now) p)) }
+    ensures plain { IfOk result (λ a. IfEmpty a SplitsAtZero) }
+    ensures leaf { length system.now.rows + 2 * system.now.columns ≤ 1024 → IfOk result (λ a. IfEmpty a (λ p. IsLeafProof p ⊎ IsHard (with_box system.now ranges.now))) }
+    ensures point { IfOk result (λ a. IfPoint a (IsLeastPoint system.now ranges.now)) }
+    ensures spends { Spends AreFewerFor 0 ranges.now budget.old budget.new result }
+    ensures unit { length system.now.rows + 2 * system.now.columns ≤ 1024 → (budget.new.spent ≤ budget.old.spent) ⊎ IsHard (with_box system.now ranges.now) }
+    ensures hard { length system.now.rows + 2 * system.now.columns ≤ 1024 → IfErr result (λ e. e ≡ Stop.Budget → IsHard (with_box system.now ranges.now)) }
+{
+    let columns = system.columns();
+    let next = next_row(system);
+    if let Some(answer) = found_at_once(alloc, system, ranges, bounds, next)? {
+        return Ok(answer);
+    }
+    searched(
+        alloc,
+        system,
+        ranges,
+        bounds,
+        next,
+        MOST_HALVES * columns,
+        budget,
+    )
+}
+
 /// The decision after the whole box is opened.
 fn opened(
     alloc: Global,
@@ -285,36 +361,11 @@ fn opened(
     ensures corner { IsPoint system.now (low_corner ranges.now) → budget.new.spent ≤ budget.old.spent }
     ensures corner_stop { IfErr result (λ e. e ≡ Stop.Budget → IsPoint system.now (low_corner ranges.now) → ⊥) }
 {
-    let columns = system.columns();
-    let next = next_row(system);
     let bounds = whole(alloc, system, ranges)?;
     if let Some(corner) = at_lows(alloc, system, bounds.as_slice())? {
         return Ok(Answer::Point(corner));
     }
-    let sight = whole_sight(alloc, system, ranges, bounds.as_slice(), next)?;
-    let WholeSight {
-        leaf,
-        vertex,
-        least,
-    } = sight;
-    if let Some(leaf) = leaf {
-        return Ok(Answer::Empty(leaf));
-    }
-    if let Some(point) = least {
-        return Ok(Answer::Point(point));
-    }
-    if let Some(leaf) = eliminated(alloc, system, ranges, vertex.as_ref(), next)? {
-        return Ok(Answer::Empty(leaf));
-    }
-    searched(
-        alloc,
-        system,
-        ranges,
-        bounds.as_slice(),
-        next,
-        MOST_HALVES * columns,
-        budget,
-    )
+    behind_corner(alloc, system, ranges, bounds.as_slice(), budget)
 }
 
 /// The decision over a list of ranges.

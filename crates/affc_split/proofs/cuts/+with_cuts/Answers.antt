@@ -1,9 +1,8 @@
-use Rattle.std.proofs.Common.{rules, ◌+◌, subst, IfSome}
+use Rattle.std.proofs.Common.{rules, subst, IfSome}
+use Rattle.affc_leaf.specs.Bounds.{ranges_of}
 use Rattle.affc_leaf.specs.Cuts.{IsCutOf}
-use Rattle.affc_leaf.specs.Parts.{IsLeast, IsEmpty}
-use Rattle.affc_split.specs.Search.{IsFound}
 use Rattle.affc_split.specs.Searches.{AreFewer}
-use Rattle.affc_leaf.proofs.Divisions.{cut_least, cut_empty}
+use Rattle.affc_split.proofs.Quotients.{HasCut, found_behind, spends_behind}
 use Rattle.affc_split.proofs.Spending.{failed_first}
 use Rattle.affc_split.proofs.cuts.+with_cuts.Goals as goal
 
@@ -13,19 +12,19 @@ returns-in_err-cut-clause-spends t c = failed_first (AreFewer 0) 0 _ c.args.budg
 pub returns-in_err-push_cut-clause-spends : goal.returns-in_err-push_cut-clause-spends
 returns-in_err-push_cut-clause-spends t c = failed_first (AreFewer 0) 0 _ c.args.budget.now c.from_residual-in_err-push_cut.result (search rules)
 
-pub returns-in-Point-clause-answer : goal.returns-in-Point-clause-answer
-returns-in-Point-clause-answer t c =
+pub returns-in-Ok-clause-answer : goal.returns-in-Ok-clause-answer
+returns-in-Ok-clause-answer t c =
     let cut = c.in-Some.cut in
-    let x = c.in-Point.point.items in
+    let after = c.push_cut.new.system in
     let d = subst (λ o. IfSome o (λ d. IsCutOf c.args.system d.number d.g d.row)) c.in-Some.is c.in_ok-cut.ensures.answer in
-    let a = subst (λ f. IsFound c.push_cut.new.system c.args.bounds.now (c.args.next + 1) f) c.in-Point.is c.in_ok-point.ensures.answer in
-    cut_least c.args.system cut.number cut.g cut.row c.args.bounds.now x d (subst (λ s. IsLeast s c.args.bounds.now x) c.in_ok-push_cut.ensures.value a)
+    let p = c.in_ok-push_cut.ensures in
+    let h : HasCut c.args.system after cut = record { taken = d; fits = p.fits; rows = p.rows; value = p.value } in
+    found_behind c.args.system after cut c.args.bounds.now c.args.next c.in-Ok.found c.behind_cut.result h c.requires.next c.in-Ok.ensures.answer c.behind_cut.ensures.behind
 
-pub returns-in_ok-proof-in-Empty-clause-answer : goal.returns-in_ok-proof-in-Empty-clause-answer
-returns-in_ok-proof-in-Empty-clause-answer t c =
-    let cut = c.in-Some.cut in
-    let rest = c.in-Empty.rest.value in
-    let d = subst (λ o. IfSome o (λ d. IsCutOf c.args.system d.number d.g d.row)) c.in-Some.is c.in_ok-cut.ensures.answer in
-    let a = subst (λ f. IsFound c.push_cut.new.system c.args.bounds.now (c.args.next + 1) f) c.in-Empty.is c.in_ok-point.ensures.answer in
-    cut_empty c.args.system cut.number cut.g cut.row c.args.bounds.now c.args.next rest c.in_ok-proof-in-Empty.proof.value c.in_ok-push_cut.ensures.rows d
-    c.in_ok-push_cut.ensures.fits c.requires.next (subst (λ s. IsEmpty s c.args.bounds.now (c.args.next + 1) rest) c.in_ok-push_cut.ensures.value a) c.in_ok-proof-in-Empty.ensures.answer
+pub returns-in-Ok-clause-spends : goal.returns-in-Ok-clause-spends
+returns-in-Ok-clause-spends t c =
+    spends_behind (ranges_of c.args.bounds.now) c.args.budget.now c.with_cuts.new.budget c.in-Some.cut c.in-Ok.found c.behind_cut.result c.behind_cut.ensures.memory c.behind_cut.ensures.behind
+    c.in-Ok.ensures.spends
+
+pub returns-in-Err-clause-spends : goal.returns-in-Err-clause-spends
+returns-in-Err-clause-spends t c = c.in-Err.ensures.spends
