@@ -3,24 +3,24 @@ use Rattle.std.proofs.Common.{◌≡◌, ℕ, zero, suc, ◌^◌, ◌<◌, ℤ, 
 use Rattle.std.specs.Prelude.{slice_get, IsTrue, nat_lt}
 use Rattle.std.specs.List.{list_all}
 use Rattle.std.proofs.lemmas.Bool.Decides.{nat_tests}
-use Rattle.affc_ast.specs.Examples.{three, copying, SomeDataFit}
+use Rattle.affc_ast.specs.Examples.{three, copying, SomeDataFit, ValuesKeepTheirSize}
 use Rattle.affc_ast.specs.Fits.{has_element}
 use Rattle.affc_ast.specs.Meaning.{arrays_of}
 use Rattle.std.specs.Ordering.{eq_by_cmp}
 use Rattle.affc_ast.specs.Store.{Element, element_cmp, at}
 
-exactly : (array : ℕ) (subscripts : List ℤ) → is_some (at (three 0 0 0) (array, subscripts)) ≡ has_element (slice_get (arrays_of copying.params) array) (array, subscripts) (pos 3 ∷ [])
-exactly zero [] = refl
-exactly zero (negsuc x ∷ []) = refl
-exactly zero (pos x ∷ []) = grind (arith, nat_tests)
-exactly zero (negsuc x ∷ y ∷ ys) = refl
-exactly zero (pos x ∷ y ∷ ys) = grind (arith, nat_tests)
-exactly (suc zero) [] = refl
-exactly (suc zero) (negsuc x ∷ []) = refl
-exactly (suc zero) (pos x ∷ []) = grind (arith, nat_tests)
-exactly (suc zero) (negsuc x ∷ y ∷ ys) = refl
-exactly (suc zero) (pos x ∷ y ∷ ys) = grind (arith, nat_tests)
-exactly (suc (suc a)) subscripts = grind (arith, nat_tests)
+exactly : (c array : ℕ) (subscripts : List ℤ) → is_some (at (three 0 0 c) (array, subscripts)) ≡ has_element (slice_get (arrays_of copying.params) array) (array, subscripts) (pos 3 ∷ [])
+exactly c zero [] = refl
+exactly c zero (negsuc x ∷ []) = refl
+exactly c zero (pos x ∷ []) = grind (arith, nat_tests)
+exactly c zero (negsuc x ∷ y ∷ ys) = refl
+exactly c zero (pos x ∷ y ∷ ys) = grind (arith, nat_tests)
+exactly c (suc zero) [] = refl
+exactly c (suc zero) (negsuc x ∷ []) = refl
+exactly c (suc zero) (pos x ∷ []) = grind (arith, nat_tests)
+exactly c (suc zero) (negsuc x ∷ y ∷ ys) = refl
+exactly c (suc zero) (pos x ∷ y ∷ ys) = grind (arith, nat_tests)
+exactly c (suc (suc a)) subscripts = grind (arith, nat_tests)
 
 both : (a b : Bool) → IsTrue (a && b) → IsTrue a × IsTrue b
 both true b h = (refl, h)
@@ -36,4 +36,13 @@ values (e ∷ es) all x v found =
     ] found
 
 pub some_data_fit : SomeDataFit
-some_data_fit = record { ranges = refl; context = refl; ordered = refl; exactly = λ x. exactly x.0 x.1; values = values (three 0 0 0) refl }
+some_data_fit = record { ranges = refl; context = refl; ordered = refl; exactly = λ x. exactly 0 x.0 x.1; values = values (three 0 0 0) refl }
+
+pub values_keep_their_size : ValuesKeepTheirSize
+values_keep_their_size = (
+  record { ranges = refl; context = refl; ordered = refl; exactly = λ x. exactly 18446744073709551615 x.0 x.1; values = values (three 0 0 18446744073709551615) refl },
+  λ fits. too_large (fits.values (1, pos 2 ∷ []) 18446744073709551616 refl),
+)
+  where
+    too_large : 18446744073709551616 < 2 ^ 64 → ⊥
+    too_large h = omega (arith, h)

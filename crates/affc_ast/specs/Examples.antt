@@ -419,6 +419,12 @@ RangesHoldTheirEnds =
 abbrev pub SomeDataFit : Type 0
 SomeDataFit = Fits copying (pos 3 ∷ []) (three 0 0 0)
 
+-- an element holds a value of `uint64_t`: 2^64 - 1 fits, and 2^64 doesn't
+abbrev pub ValuesKeepTheirSize : Type 0
+ValuesKeepTheirSize =
+    Fits copying (pos 3 ∷ []) (three 0 0 18446744073709551615) ×
+    (Fits copying (pos 3 ∷ []) (three 0 0 18446744073709551616) → ⊥)
+
 -- affc_mod(N, 0) == 0 has no value, and isn't met
 abbrev pub ConditionsHaveValues : Type 0
 ConditionsHaveValues =

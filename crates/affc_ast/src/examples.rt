@@ -4,7 +4,7 @@
 ghost use Rattle.affc_ast.specs.Examples.{QuotientsRound, RemaindersStartAtZero, LeastAndGreatest, DivisorsAreAtLeastOne, NumbersHaveTheirEnds, NegationsOverflow, ValuesCompute, ValuesWrap, RelationsCompare, FirstFalseEndsTheReading};
 ghost use Rattle.affc_ast.specs.Examples.{CopyLoopCopies, OutputsAreOut, CopyLoopTrace, CopyLoopEvents, CompoundAdds, CompoundSubtracts, ValuesAreReadFromTheLeft, ConditionsChoose, LoopsNest, TwoStatementsTakeTurns, TwoStatementsRun, CompoundLoadsFirst, LocalsSeeThoseBefore};
 ghost use Rattle.affc_ast.specs.Examples.{LoadsStayInside, StoresStayInside, SubscriptsStartAtZero, AccessesAreCounted, StatementsAreCounted, LoadsFindValues, OwnElementComesFirst, ProductsOverflow, ProductsFit, ContextHasNodes, TemporariesHaveNodes, ValuesHaveNodes, BlocksHaveNodes, LocalsHaveNodes, ExtentsAreAtLeastOne, FirstExtentEndsTheReading, ExtentsAreReadInOrder, StepsOverflow};
-ghost use Rattle.affc_ast.specs.Examples.{RangesHoldTheirEnds, SomeDataFit, ConditionsHaveValues, ContextsHaveNoLimit};
+ghost use Rattle.affc_ast.specs.Examples.{RangesHoldTheirEnds, SomeDataFit, ValuesKeepTheirSize, ConditionsHaveValues, ContextsHaveNoLimit};
 ghost use Rattle.affc_ast.specs.Examples.{FollowsInAnotherOrder, FollowsAtOtherPlaces};
 ghost use Rattle.affc_ast.specs.Rules.{LeftSidesComeFirst, LeftLoadsComeFirst, LowerBoundsComeFirst, LeftSubscriptsComeFirst, SubscriptsComeBeforeValues, ValuesComeBeforeStores, UnwrittenLoadsAreCounted, SubscriptsHaveTheirExtents, LastSubscriptsRunFastest, ValuesAreStored, EachFormHasItsNodes, NodesAreCounted, LocalsAreNoIterators, ConditionsAreLookedInto, FalseContextsAreUnmet, KeywordsAreReserved, AssignmentsAreToArrays, SubscriptsAreAsDimensions};
 ghost use Rattle.affc_ast.specs.Counterexamples.{OrdersDiffer, ValuesDiffer, PlacesDiffer, OwnElementsDiffer, OutputsDiffer, NamesDiffer, RangesDiffer, ContextsDiffer, RunsDiffer};
@@ -66,6 +66,7 @@ pub fn stops()
 pub fn data()
     ensures ranges_hold_their_ends { RangesHoldTheirEnds }
     ensures some_data_fit { SomeDataFit }
+    ensures values_keep_their_size { ValuesKeepTheirSize }
     ensures conditions_have_values { ConditionsHaveValues }
     ensures contexts_have_no_limit { ContextsHaveNoLimit }
 {}

@@ -9,7 +9,7 @@ pub quotients_round_down : QuotientsRoundDown
 quotients_round_down = (refl, refl, refl, refl)
 
 pub ways_are_counted : WaysAreCounted
-ways_are_counted = (refl, refl, refl, refl)
+ways_are_counted = (refl, refl, refl, refl, refl, refl, refl, refl)
 
 pub leaves_in_order : LeavesInOrder
 leaves_in_order = refl

@@ -2,6 +2,7 @@
 use Rattle.std.proofs.Common.{◌≡◌, ℕ, zero, suc, ◌+◌, ◌-◌, ◌≤◌, ℤ, pos, negsuc, ◌+ℤ◌, ◌*ℤ◌, ◌≤ℤ◌, Bool, true, false, if◌then◌else◌, List, [], ◌∷◌, ◌++◌, length, map, replicate, Some, None, refl, sym, ap, subst, ◌∙◌, inl, inr, arith}
 use Rattle.std.specs.Prelude.{int_le}
 use Rattle.std.proofs.lemmas.Int.{ints}
+use Rattle.std.proofs.lemmas.List.{length-replicate}
 use Rattle.affc_rows.specs.Forms.{Affine, value, dot, values_of, HaveColumns}
 use Rattle.affc_rows.proofs.ValueLemmas.{length-mixed}
 use Rattle.affc_ast.specs.declared.tree.Rel.TheVariants.{Less}
@@ -12,12 +13,13 @@ use Rattle.affc_trace.proofs.Members.{to_first, to_second, in_map, to_map}
 use Rattle.affc_trace.proofs.Runs.{length_append}
 use Rattle.affc_trace.proofs.EndedReads.{append_assoc}
 use Rattle.affc_trace.proofs.LastStores.{append_nil}
+use Rattle.affc_domain.proofs.Lists.{length_push}
+use Rattle.affc_domain.proofs.ColumnLemmas.{no_columns, more_columns, first_columns, later_columns, cons_is}
 use Rattle.affc_nest.specs.Domains.{gap_row, number_form}
 use Rattle.affc_nest.specs.Questions.{widened}
-use Rattle.affc_domain.proofs.FormLemmas.{number_value, number_width}
+use Rattle.affc_domain.proofs.FormLemmas.{number_value, number_width, dot_zeros}
 use Rattle.affc_system.specs.Systems.{Met}
 use Rattle.affc_nest.proofs.DomainLemmas.{met_append, met_both, rows_say, say_rows}
-use Rattle.affc_nest.proofs.DomainLemmas.{length_push}
 use Rattle.affc_quast.specs.Limits.{Shaped}
 use Rattle.affc_quast.specs.Laws.{Leads, LeafIsReached, LeafIsNamed}
 use Rattle.affc_quast.specs.Trees.{Tree, Test, Div, Source, Input, named_at, instance_at, quotients_at}
@@ -28,13 +30,8 @@ use Rattle.affc_quast.specs.Leaves.{padded, negated, Leaf, behind, divided, leav
 
 -- ---- Forms over more columns
 
-zeros_dot : (n : ℕ) (xs : List ℤ) → dot (replicate n (pos 0)) xs ≡ pos 0
-zeros_dot zero xs = refl
-zeros_dot (suc n) [] = refl
-zeros_dot (suc n) (x ∷ xs) = omega (arith, ints, zeros_dot n xs)
-
 padded_dot : (cs : List ℤ) (n : ℕ) (xs : List ℤ) → dot (cs ++ replicate n (pos 0)) xs ≡ dot cs xs
-padded_dot [] n xs = zeros_dot n xs
+padded_dot [] n xs = dot_zeros n xs
 padded_dot (c ∷ cs) n [] = refl
 padded_dot (c ∷ cs) n (x ∷ xs) = ap (λ z. (c *ℤ x) +ℤ z) (padded_dot cs n xs)
 
@@ -42,12 +39,7 @@ pub padded_value : (columns : ℕ) (f : Affine) (xs : List ℤ) → value (padde
 padded_value columns f xs = ap (λ z. z +ℤ f.constant) (padded_dot f.coefs (columns - length f.coefs) xs)
 
 padded_length : (cs : List ℤ) (n : ℕ) → length (cs ++ replicate n (pos 0)) ≡ length cs + n
-padded_length [] n = zeros n
-  where
-    zeros : (n : ℕ) → length (replicate n (pos 0)) ≡ 0 + n
-    zeros zero = refl
-    zeros (suc n) = omega (arith, zeros n)
-padded_length (c ∷ cs) n = omega (arith, padded_length cs n)
+padded_length cs n = length_append cs (replicate n (pos 0)) ∙ ap (λ k. length cs + k) (length-replicate n (pos 0))
 
 pub padded_width : (columns : ℕ) (f : Affine) → length f.coefs ≤ columns → length (padded columns f).coefs ≡ columns
 padded_width columns f h = omega (arith, padded_length f.coefs (columns - length f.coefs))
@@ -64,6 +56,27 @@ short_value f xs ys h = ap (λ z. z +ℤ f.constant) (short_dot f.coefs xs ys h)
 abbrev pub Narrow : ℕ → List Affine → Type 0
 Narrow n [] = Unit {0}
 Narrow n (r ∷ rs) = (length r.coefs ≤ n) × Narrow n rs
+
+short : (k m n : ℕ) → k ≡ m → m ≤ n → k ≤ n
+short k m n e l = omega (arith, e, l)
+
+pub narrow_columns : (m n : ℕ) (rows : List Affine) → m ≤ n → HaveColumns m rows → Narrow n rows
+narrow_columns m n [] l h = tt
+narrow_columns m n (r ∷ rs) l h = (short (length r.coefs) m n (first_columns m r rs h) l, narrow_columns m n rs l (later_columns m r rs h))
+
+pub padded_values : (n : ℕ) (fs : List Affine) (xs : List ℤ) → values_of (map (padded n) fs) xs ≡ values_of fs xs
+padded_values n [] xs = refl
+padded_values n (f ∷ fs) xs = cons_is (value (padded n f) xs) (value f xs) (values_of (map (padded n) fs) xs) (values_of fs xs) (padded_value n f xs) (padded_values n fs xs)
+
+pub padded_columns : (m n : ℕ) (fs : List Affine) → m ≤ n → HaveColumns m fs → HaveColumns n (map (padded n) fs)
+padded_columns m n [] l h = no_columns n
+padded_columns m n (f ∷ fs) l h = more_columns n (padded n f) (map (padded n) fs) (padded_width n f (short (length f.coefs) m n (first_columns m f fs h) l)) (padded_columns m n fs l (later_columns m f fs h))
+
+pub short_values : (m : ℕ) (fs : List Affine) (xs ys : List ℤ) → m ≤ length xs → HaveColumns m fs → values_of fs (xs ++ ys) ≡ values_of fs xs
+short_values m [] xs ys l h = refl
+short_values m (f ∷ fs) xs ys l h =
+    cons_is (value f (xs ++ ys)) (value f xs) (values_of fs (xs ++ ys)) (values_of fs xs) (short_value f xs ys (short (length f.coefs) m (length xs) (first_columns m f fs h) l))
+    (short_values m fs xs ys l (later_columns m f fs h))
 
 pub narrow_append : (n : ℕ) (rows more : List Affine) → Narrow n rows → Narrow n more → Narrow n (rows ++ more)
 narrow_append n [] more h g = g

@@ -6,8 +6,8 @@ use Rattle.std.proofs.lemmas.List.Elements.{All-nil, All-cons, All-head, All-tai
 use Rattle.std.proofs.Math.Nat.{mul-le-mul_left, mul-le-mul_right}
 use Rattle.affc_rows.specs.Forms.{Affine, value, values_of, dot_magnitude, HaveColumns}
 use Rattle.affc_ast.specs.Index.{floor_of}
-use Rattle.affc_nest.proofs.DomainLemmas.{length_push}
-use Rattle.affc_order.proofs.ColumnLemmas.{first_columns, later_columns}
+use Rattle.affc_domain.proofs.ColumnLemmas.{first_columns, later_columns}
+use Rattle.affc_domain.proofs.Lists.{length_push}
 use Rattle.affc_quast.specs.Limits.{Shaped, FitsForm, FitsTree, widest}
 use Rattle.affc_quast.specs.Paths.{IsNear, HasValue, HasNearValue, OnSide, LeadsNear}
 use Rattle.affc_quast.specs.Trees.{Tree, Test, Div, Source, Input, named_at, quotients_at, depth_of}

@@ -15,7 +15,8 @@ use Rattle.affc_trace.proofs.Members.{in_map}
 use Rattle.affc_trace.proofs.Runs.{length_append}
 use Rattle.affc_trace.proofs.EndedReads.{append_assoc}
 use Rattle.affc_domain.proofs.RangeLemmas.{box_push, box_length}
-use Rattle.affc_nest.proofs.DomainLemmas.{length_push, met_both}
+use Rattle.affc_domain.proofs.Lists.{length_push}
+use Rattle.affc_nest.proofs.DomainLemmas.{met_both}
 use Rattle.affc_quast.specs.Laws.{LeavesAreOver, LeafIsBoxed, RangesOfLeaf}
 use Rattle.affc_quast.specs.Limits.{Shaped}
 use Rattle.affc_quast.specs.Paths.{IsNear}

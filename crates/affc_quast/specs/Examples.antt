@@ -9,11 +9,11 @@ use Rattle.affc_quast.specs.Leaves.{leaves_of, padded, path_ranges}
 use Rattle.affc_quast.specs.Sources.{loads_before, tree_of}
 use Rattle.affc_quast.specs.Trees.{Tree, Test, Div, Source, Input, named_at, quotients_at, depth_of, divisions_of}
 
-abbrev form : List ℤ → ℤ → Affine
+abbrev pub form : List ℤ → ℤ → Affine
 form cs k = record { coefs = cs; constant = k }
 
 -- over N, i: S0(i - 1) where i is at least 1, and else S1 at the half of i + 1
-abbrev tree : Tree
+abbrev pub tree : Tree
 tree =
     Test (form (pos 0 ∷ pos 1 ∷ []) (negsuc 0))
     (Source 0 (form (pos 0 ∷ pos 1 ∷ []) (negsuc 0) ∷ []))
@@ -34,9 +34,19 @@ QuotientsRoundDown = (named_at tree (pos 4 ∷ negsuc 2 ∷ []) ≡ Some (record
     × (quotients_at tree (pos 4 ∷ negsuc 3 ∷ []) ≡ negsuc 1 ∷ [])
     × (quotients_at tree (pos 4 ∷ pos 1 ∷ []) ≡ [])
 
--- tests and divisions on the longest way
+-- the tree on either side of a test, or on both: its longest way counts, and once
+abbrev test_of : Tree → Tree → Tree
+test_of on off = Test (form [] (pos 0)) on off
+
 abbrev pub WaysAreCounted : Type 0
-WaysAreCounted = (depth_of tree ≡ 2) × (divisions_of tree ≡ 1) × (depth_of (Test (form [] (pos 0)) Input tree) ≡ 3) × (divisions_of (Test (form [] (pos 0)) tree Input) ≡ 1)
+WaysAreCounted = (depth_of tree ≡ 2)
+    × (depth_of (test_of Input tree) ≡ 3)
+    × (depth_of (test_of tree Input) ≡ 3)
+    × (depth_of (test_of tree tree) ≡ 3)
+    × (divisions_of tree ≡ 1)
+    × (divisions_of (test_of Input tree) ≡ 1)
+    × (divisions_of (test_of tree Input) ≡ 1)
+    × (divisions_of (test_of tree tree) ≡ 1)
 
 -- ---- Leaves
 
