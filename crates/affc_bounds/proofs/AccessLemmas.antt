@@ -2,10 +2,9 @@
 use Rattle.std.proofs.Common.{◌≡◌, ◌⊎◌, ℕ, zero, suc, ◌+◌, ◌<◌, ℤ, pos, negsuc, ◌≤ℤ◌, ◌<ℤ◌, Bool, true, false, IsTrue, List, [], ◌∷◌, ◌++◌, length, get_or, take, drop, map, Option, Some, refl, sym, ap, subst, ◌∙◌, inl, inr, arith}
 use Rattle.std.specs.Prelude.{◌&&◌, int_le, int_lt, slice_get}
 use Rattle.std.proofs.lemmas.Int.{ints}
-use Rattle.std.proofs.lemmas.Option.{none-some, same_Some}
+use Rattle.std.proofs.lemmas.Option.{none-some, same_Some, slice_get_within}
 use Rattle.affc_rows.specs.Forms.{Affine, value, values_of}
 use Rattle.std.proofs.lemmas.List.{take-append-drop}
-use Rattle.affc_system.specs.Boxes.{InBox}
 use Rattle.affc_system.specs.Order.{LexLe}
 use Rattle.affc_system.specs.Systems.{Rows, IsPoint}
 use Rattle.affc_ast.specs.declared.tree.ArrayId.{ArrayId}
@@ -17,9 +16,9 @@ use Rattle.affc_ast.specs.Values.{is_within}
 use Rattle.affc_trace.specs.Law.{IsIn}
 use Rattle.affc_trace.specs.Laws.{IsInContext}
 use Rattle.affc_domain.specs.Ranges.{number_ranges}
-use Rattle.affc_domain.proofs.Lists.{true_both, le_true, lt_true, from_map, to_mapped}
+use Rattle.affc_domain.proofs.Lists.{true_both, le_true, lt_true, from_map, to_mapped, stands_in, there_is}
 use Rattle.affc_domain.proofs.PlainLemmas.{has_assignment}
-use Rattle.affc_domain.proofs.RangeLemmas.{box_length, in_ranges}
+use Rattle.affc_domain.proofs.RangeLemmas.{box_length, in_ranges, box_append}
 use Rattle.affc_domain.proofs.TurnLemmas.{instances_turn}
 use Rattle.affc_domain.specs.Arrays.{declared_arrays, extents_at}
 use Rattle.affc_safe.specs.Safe.{LiesWithin}
@@ -31,7 +30,7 @@ use Rattle.affc_nest.specs.Nests.{nest_of}
 use Rattle.affc_nest.specs.Questions.{extents_of_access, low_question, high_question}
 use Rattle.affc_nest.proofs.AccessLemmas.{accesses_are_events}
 use Rattle.affc_nest.proofs.EntryLemmas.{site_of, entries_stand, points_are_instances, none_where_not_alive, ranges_hold_iterators}
-use Rattle.affc_nest.proofs.QuestionLemmas.{AllWide, stands_in, there_is, below_length, arrays_wide, subs_wide, extents_there, says_low, says_high, or_less, as_many, dimension_within, access_point}
+use Rattle.affc_nest.proofs.QuestionLemmas.{AllWide, arrays_wide, subs_wide, extents_there, says_low, says_high, or_less, as_many, dimension_within, access_point}
 use Rattle.affc_leaf.specs.Points.{IsLeastPoint}
 use Rattle.affc_bounds.specs.Found.{IsFirst, IsNearer}
 use Rattle.affc_bounds.specs.Looks.{IsLeastIn, IsOutsideAt, box_of, InDimension, InDimensions, InAccesses, InEntry, InEntries}
@@ -142,12 +141,6 @@ module _ (program : Program) (has : HasNest program) (found : Found) where
 
 -- ---- What lies outside is found
 
-box_append : (rs ss : List (ℤ × ℤ)) (p its : List ℤ) → InBox rs p → InBox ss its → InBox (rs ++ ss) (p ++ its)
-box_append [] ss [] its a b = b
-box_append [] ss (x ∷ p) its a b = absurd a
-box_append (r ∷ rs) ss [] its a b = absurd a
-box_append (r ∷ rs) ss (x ∷ p) its a b = (a.0, a.1, box_append rs ss p its a.2 b)
-
 -- the spot of an access, as it is found
 abbrev pub found_at : (array : ℕ) (access : ℕ) (p : List ℤ) → Instance → Found
 found_at array access p here = record { key = spot_of p here access; fault = Bounds (record { 0 = array }) access p here }
@@ -223,7 +216,7 @@ pub outside_is_found : (program : Program) → HasNest program → NamesArrays p
 outside_is_found program has named p here access o =
     let t = (instances_turn program p here).0 o.runs in
     let a = has_assignment program here.statement t.0 t.1 in
-    let there = there_is (nest_of program).entries here.statement (fewer (entries_stand program has).0 (below_length (assignments program) here.statement a.0 a.1)) in
+    let there = there_is (nest_of program).entries here.statement (fewer (entries_stand program has).0 (slice_get_within (assignments program) here.statement a.0 a.1)) in
     by_entry there.0 there.1 there.0.alive refl
   where
     fewer : {x y k : ℕ} → x ≡ y → k < y → k < x

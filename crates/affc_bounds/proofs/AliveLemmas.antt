@@ -1,9 +1,9 @@
 -- The questions of a program's nest may be asked in the boxes of its parameters and iterators.
-use Rattle.std.proofs.Common.{◌≡◌, ℕ, ◌+◌, ◌^◌, ◌≤◌, ℤ, IsTrue, List, [], ◌∷◌, length, refl, sym, ap, subst, ◌∙◌, inl, inr, arith}
-use Rattle.std.specs.Prelude.{◌&&◌, nat_le, unsigned_abs}
+use Rattle.std.proofs.Common.{◌≡◌, ℕ, ◌+◌, ◌≤◌, ℤ, IsTrue, List, [], ◌∷◌, length, refl, sym, ap, subst, ◌∙◌, inl, inr, arith}
+use Rattle.std.specs.Prelude.{◌&&◌, nat_le}
 use Rattle.std.specs.List.{All}
 use Rattle.std.proofs.lemmas.Bool.{leb-true}
-use Rattle.std.proofs.lemmas.List.Elements.{All-nil, All-cons, All-append}
+use Rattle.std.proofs.lemmas.List.Elements.{All-append}
 use Rattle.affc_rows.specs.Forms.{Affine}
 use Rattle.affc_system.specs.Pairs.{WithinReach}
 use Rattle.affc_ast.specs.declared.tree.Program.{Program}
@@ -13,7 +13,7 @@ use Rattle.affc_domain.specs.Accesses.{accesses_of}
 use Rattle.affc_domain.specs.Plain.{all_plain, plain_value}
 use Rattle.affc_domain.specs.Ranges.{number_ranges}
 use Rattle.affc_domain.specs.Rounds.{loops_in}
-use Rattle.affc_domain.proofs.Lists.{both_true, length_map}
+use Rattle.affc_domain.proofs.Lists.{both_true, length_map, place_of}
 use Rattle.affc_domain.proofs.PlainLemmas.{assignments_are_plain}
 use Rattle.affc_nest.specs.Asked.{IsNest, IsSubscript}
 use Rattle.affc_nest.specs.declared.nest.Access.{Access}
@@ -24,18 +24,9 @@ use Rattle.affc_nest.specs.Nests.{access_form, nest_of}
 use Rattle.affc_nest.specs.Sides.{NearRanges}
 use Rattle.affc_nest.proofs.EntryLemmas.{site_of, entries_stand, ranges_there, ranges_are_within, ranges_hold_iterators}
 use Rattle.affc_nest.proofs.PlaceProofs.{near_numbers, near_within}
-use Rattle.affc_nest.proofs.QuestionLemmas.{place_of}
 use Rattle.affc_nest.proofs.QuestionProofs.{nest_near, nests_are_asked}
+use Rattle.affc_nest.proofs.IntervalLemmas.{near_reach}
 use Rattle.affc_bounds.specs.Looks.{AreSubscripts, HaveSubscripts, IsAlive, AreAlive}
-
--- ---- Reach
-
-near_reach : (rs : List (ℤ × ℤ)) → NearRanges rs → All WithinReach rs
-near_reach [] h = All-nil WithinReach
-near_reach (r ∷ rs) h = All-cons WithinReach r rs (record { low = more (unsigned_abs r.0) h.0; high = more (unsigned_abs r.1) h.1 }) (near_reach rs h.2)
-  where
-    more : (n : ℕ) → n ≤ 2 ^ 32 → n ≤ 2 ^ 60
-    more n h = omega (arith, h)
 
 -- ---- Subscripts
 

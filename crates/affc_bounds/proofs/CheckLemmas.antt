@@ -10,11 +10,12 @@ use Rattle.affc_trace.specs.Law.{IsIn}
 use Rattle.affc_trace.specs.Laws.{IsInContext}
 use Rattle.affc_trace.proofs.Members.{to_first, to_second}
 use Rattle.affc_domain.specs.Arrays.{declared_arrays, extents_at}
+use Rattle.affc_domain.proofs.Lists.{place_of}
 use Rattle.affc_safe.specs.Safe.{LiesWithin}
 use Rattle.affc_nest.specs.Laws.{HasNest, NamesArrays}
 use Rattle.affc_nest.specs.Nests.{nest_of}
 use Rattle.affc_nest.proofs.AccessLemmas.{context_is_the_context}
-use Rattle.affc_nest.proofs.QuestionLemmas.{place_of, or_less}
+use Rattle.affc_nest.proofs.QuestionLemmas.{or_less}
 use Rattle.affc_bounds.specs.Faults.{ExtentsStand, AccessesStand, StaysWithin, IsMeaningFault}
 use Rattle.affc_bounds.specs.Found.{IsFirst}
 use Rattle.affc_bounds.specs.Looks.{ContextSays, InArrays, InEntries, IsClean, IsFaultOf, empty, narrow, outside}

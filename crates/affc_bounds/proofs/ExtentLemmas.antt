@@ -13,13 +13,14 @@ use Rattle.affc_domain.specs.Affine.{form_of}
 use Rattle.affc_domain.specs.Ranges.{number_ranges}
 use Rattle.affc_domain.proofs.RangeLemmas.{box_length, in_ranges}
 use Rattle.affc_domain.specs.Arrays.{declared_arrays}
+use Rattle.affc_domain.proofs.Lists.{stands_in}
 use Rattle.affc_nest.specs.declared.nest.ArrayInfo.{ArrayInfo}
 use Rattle.affc_nest.specs.declared.nest.Nest.{Nest}
 use Rattle.affc_nest.specs.Asked.{IsExtent}
 use Rattle.affc_nest.specs.Laws.{HasNest}
 use Rattle.affc_nest.specs.Nests.{array_of, nest_of}
 use Rattle.affc_nest.specs.Questions.{extent_question, extents_or_none}
-use Rattle.affc_nest.proofs.QuestionLemmas.{stands_in, extent_says, says_extent, narrow, extent_value}
+use Rattle.affc_nest.proofs.QuestionLemmas.{extent_says, says_extent, narrow, extent_value}
 use Rattle.affc_bounds.specs.Found.{IsFirst, IsNearer}
 use Rattle.affc_bounds.specs.Looks.{IsLeastIn, IsNarrowAt, InExtents, InArrays, AreExtents, HaveExtents}
 use Rattle.affc_bounds.specs.Spots.{IsNarrow}

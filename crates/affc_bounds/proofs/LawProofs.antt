@@ -3,7 +3,7 @@ use Rattle.std.proofs.Common.{◌≡◌, ℕ, ℤ, pos, ◌≤ℤ◌, List, [], 
 use Rattle.std.specs.Prelude.{slice_get}
 use Rattle.std.proofs.lemmas.Int.{ints}
 use Rattle.std.proofs.lemmas.List.{same_from_push}
-use Rattle.std.proofs.lemmas.Option.{none-some, same_Some}
+use Rattle.std.proofs.lemmas.Option.{none-some, same_Some, slice_get_within}
 use Rattle.affc_ast.specs.declared.tree.ArrayId.{ArrayId}
 use Rattle.affc_ast.specs.declared.tree.Instance.{Instance}
 use Rattle.affc_ast.specs.declared.tree.Program.{Program}
@@ -17,13 +17,13 @@ use Rattle.affc_leaf.proofs.Orders.{lex_same}
 use Rattle.affc_domain.specs.Plain.{IsPlain}
 use Rattle.affc_domain.specs.Ranges.{number_ranges}
 use Rattle.affc_domain.proofs.RangeLemmas.{box_length, in_ranges}
+use Rattle.affc_domain.proofs.Lists.{stands_in}
 use Rattle.affc_safe.specs.Safe.{IsSafe}
 use Rattle.affc_safe.proofs.Accesses.{without_temporaries_safe}
 use Rattle.affc_safe.proofs.EndedSafe.{unsafe_is_stuck}
 use Rattle.affc_safe.proofs.FitsThere.{some_store_fits}
 use Rattle.affc_safe.proofs.PlainNear.{plain_has_no_locals}
 use Rattle.affc_safe.proofs.SafeLaws.{safe_runs}
-use Rattle.affc_nest.proofs.QuestionLemmas.{stands_in, below_length}
 use Rattle.affc_bounds.specs.Faults.{ExtentsStand, IsBoundsFault}
 use Rattle.affc_bounds.specs.Laws.{IsStuckAt, NarrowIsStuck, OutsideIsStuck, StayingIsSafe, StayingEnds, FaultsDoNotStay, OneFault}
 use Rattle.affc_bounds.specs.Spots.{IsNarrow, IsFirstNarrow, spot_of}
@@ -61,7 +61,7 @@ outside_is_stuck program p here access plain o =
 
 pub staying_is_safe : StayingIsSafe
 staying_is_safe program p stays named none inside =
-    without_temporaries_safe program p none (λ a x i j. let d = named a x i j in below_length _ x.0.0 d.0 d.1) (stays.extents p inside) (stays.accesses p inside)
+    without_temporaries_safe program p none (λ a x i j. let d = named a x i j in slice_get_within _ x.0.0 d.0 d.1) (stays.extents p inside) (stays.accesses p inside)
 
 pub staying_ends : StayingEnds
 staying_ends program p store plain stays named none fits =

@@ -1,9 +1,8 @@
 -- The order of keys, and the first of what is found.
-use Rattle.std.proofs.Common.{◌≡◌, ℕ, suc, ◌+◌, ℤ, ◌<ℤ◌, List, [], ◌∷◌, ◌++◌, length, get_or, take, drop, ◌-◌, ◌≤◌, Option, Some, None, refl, sym, ap, subst, ◌∙◌, inl, inr, arith}
+use Rattle.std.proofs.Common.{◌≡◌, ℕ, suc, ◌+◌, ℤ, ◌<ℤ◌, List, [], ◌∷◌, ◌++◌, length, Option, Some, None, refl, sym, ap, subst, ◌∙◌, inl, inr, arith}
 use Rattle.std.proofs.lemmas.Int.{ints}
 use Rattle.affc_system.specs.Order.{LexLe}
 use Rattle.affc_trace.proofs.Runs.{length_append}
-use Rattle.affc_nest.proofs.RowLemmas.{tail_is}
 use Rattle.affc_bounds.specs.Found.{Either, IsFirst, IsNearer}
 use Rattle.affc_bounds.specs.declared.found.Found.{Found}
 
@@ -87,7 +86,3 @@ none_more k = omega arith
 
 pub none_before : (k : ℕ) → 0 + k ≡ k
 none_before k = omega arith
-
--- a list by its front
-pub front_is : {A : Type 0} (xs : List A) (x : A) → 1 ≤ length xs → x ≡ get_or xs 0 x → xs ≡ x ∷ take (length xs - 1) (drop 1 xs)
-front_is xs x h e = tail_is xs x h ∙ ap (λ y. y ∷ take (length xs - 1) (drop 1 xs)) (sym e)

@@ -1,13 +1,12 @@
 -- The comparison by shared loops is the order of the text.
 use Rattle.std.proofs.Common.{◌≡◌, ℕ, zero, suc, ◌+◌, ◌<◌, ◌≤◌, ◌^◌, ℤ, pos, ◌+ℤ◌, ◌≤ℤ◌, Bool, true, false, cond, List, [], ◌∷◌, length, take, refl, sym, ap, subst, ◌∙◌, ◌⊎◌, inl, inr, arith, Ordering}
-use Rattle.std.specs.Prelude.{nat_lt, int_lt, ◌==◌, ◌↔◌}
+use Rattle.std.specs.Prelude.{nat_lt, ◌==◌, ◌↔◌}
 use Rattle.std.specs.declared.cmp.Ordering.TheVariants as ord
 use Rattle.std.specs.Ordering.{ordering_then, nat_cmp, int_cmp}
 use Rattle.std.specs.Cmp.{IsTotalOrder, int_cmp_total, nat_cmp_total, then_total, on_total, tied_itself}
 use Rattle.std.specs.Cmp.Lexicographic.{slice_cmp, lists_total}
 use Rattle.std.specs.FinMap.{int_cmp-IsAntisymmetric}
 use Rattle.std.proofs.lemmas.Bool.Decides.{nat_tests}
-use Rattle.std.proofs.lemmas.Int.{ints}
 use Rattle.affc_ast.specs.declared.tree.Instance.{Instance}
 use Rattle.affc_ast.specs.declared.tree.Program.{Program}
 use Rattle.affc_ast.specs.Trace.{trace}
@@ -21,31 +20,12 @@ use Rattle.affc_domain.proofs.CountLemmas.{iterators_of_loops}
 use Rattle.affc_domain.proofs.PlainLemmas.{few_loops, rounds_are_plain}
 use Rattle.affc_domain.proofs.TurnLemmas.{instances_turn}
 use Rattle.affc_domain.proofs.OrderLemmas.{has_loops, one_each, order_of_the_text, before_tie, shared_left, shared_right}
+use Rattle.affc_domain.proofs.Lists.{int_less, less_int}
 use Rattle.affc_compare.specs.Sharing.{common_loops}
 use Rattle.affc_compare.specs.Source.{loops_cmp, source_cmp, HaveLoops}
 use Rattle.affc_compare.proofs.SharedLemmas.{common_is_shared, assigns_are_counted, shared_turned}
 
 -- ---- Comparisons
-
-int_less : (x y : ℤ) → int_cmp x y ≡ ord.Less → (x +ℤ pos 1) ≤ℤ y
-int_less x y h = chosen (int_lt x y) refl h
-  where
-    below : (x y : ℤ) → int_lt x y ≡ true → (x +ℤ pos 1) ≤ℤ y
-    below x y e = grind (arith, ints)
-
-    other : (u : Bool) → cond u ord.Greater ord.Equal ≡ ord.Less → ⊥
-    other true h = cc
-    other false h = cc
-
-    chosen : (t : Bool) → int_lt x y ≡ t → cond t ord.Less (cond (int_lt y x) ord.Greater ord.Equal) ≡ ord.Less → (x +ℤ pos 1) ≤ℤ y
-    chosen true e h = below x y e
-    chosen false e h = absurd (other (int_lt y x) h)
-
-less_int : (x y : ℤ) → (x +ℤ pos 1) ≤ℤ y → int_cmp x y ≡ ord.Less
-less_int x y h = ap (λ t. cond t ord.Less (cond (int_lt y x) ord.Greater ord.Equal)) (below x y h)
-  where
-    below : (x y : ℤ) → (x +ℤ pos 1) ≤ℤ y → int_lt x y ≡ true
-    below x y e = grind (arith, ints)
 
 nat_less : (m n : ℕ) → nat_cmp m n ≡ ord.Less → m < n
 nat_less m n h = chosen (nat_lt m n) refl h

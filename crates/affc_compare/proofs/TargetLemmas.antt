@@ -6,8 +6,6 @@ use Rattle.std.specs.Ordering.{ordering_reverse}
 use Rattle.std.specs.Cmp.{IsTotalOrder, tied_itself}
 use Rattle.affc_rows.specs.Forms.{HaveColumns}
 use Rattle.affc_ast.specs.declared.tree.Instance.{Instance}
-use Rattle.affc_ast.specs.declared.tree.Param.{Param}
-use Rattle.affc_ast.specs.declared.tree.Param.TheVariants.{Number, Array}
 use Rattle.affc_ast.specs.declared.tree.Program.{Program}
 use Rattle.affc_ast.specs.Trace.{trace}
 use Rattle.affc_trace.specs.declared.schedule.Schedule.TheVariants.{Source, Time}
@@ -19,7 +17,7 @@ use Rattle.affc_trace.proofs.Depths.{depth}
 use Rattle.affc_trace.proofs.Once.{once}
 use Rattle.affc_trace.proofs.Ordered.{time_cmp_total, map_of, target_is_by_time}
 use Rattle.affc_trace.proofs.Targets.{target_is_reordered}
-use Rattle.affc_domain.specs.Ranges.{number_ranges}
+use Rattle.affc_domain.proofs.RangeLemmas.{numbers_are}
 use Rattle.affc_compare.specs.Asked.{AreAsked}
 use Rattle.affc_compare.specs.Compared.{IsOrderIn}
 use Rattle.affc_compare.specs.Source.{loops_cmp, source_cmp}
@@ -70,11 +68,6 @@ module _ (program : Program) (p : List ℤ) (a b : Instance) (h : AreAsked progr
       (subst (λ k. (loops_cmp k b a ≡ Less) ↔ Earlier (trace program p) b a) (sym turned) (less_is_earlier program p b a h.second h.first))
 
 -- ---- Times
-
-numbers_are : (ps : List Param) → numbers_in ps ≡ length (number_ranges ps)
-numbers_are [] = refl
-numbers_are (Number name low high ∷ ps) = ap suc (numbers_are ps)
-numbers_are (Array decl ∷ ps) = numbers_are ps
 
 module _ (program : Program) (n : ℕ) (maps : List TimeMap) (p : List ℤ) (a b : Instance) (h : AreAsked program (Time n maps) p a b) where
   timed : (i : Instance) → IsIn i (trace program p) → IsTimed n maps p i

@@ -19,11 +19,11 @@ use Rattle.affc_domain.proofs.FormLemmas.{number_value, number_width}
 use Rattle.affc_basis.specs.declared.fold.Modulus.{Modulus}
 use Rattle.affc_basis.specs.Slices.{minus, along, InSlice}
 use Rattle.affc_basis.specs.Folds.{forms_of}
+use Rattle.affc_domain.proofs.Lists.{stands_in}
 use Rattle.affc_nest.specs.Domains.{gap_row, compare_rows, number_form, box_rows}
 use Rattle.affc_nest.specs.Laws.{NoneHasAPoint}
 use Rattle.affc_nest.proofs.DomainLemmas.{Met, to_all, from_all, met_append, no_gap_up, say_rows}
 use Rattle.affc_nest.proofs.PointLemmas.{box_met}
-use Rattle.affc_nest.proofs.QuestionLemmas.{stands_in}
 use Rattle.affc_conflicts.specs.Conditions.{InContext}
 use Rattle.affc_conflicts.specs.Questions.{context_system, positive_question, distance, agree_rows, slice_system, over_columns, distance_question, distance_questions, mark_questions, row_questions, questions_from}
 use Rattle.affc_conflicts.specs.Laws.{IsOver, FoldQuestionsDecide}
@@ -168,7 +168,7 @@ row_asked context ranges systems rows (r ∷ rs) (n ∷ ms) k (suc j) row m none
     subst (λ i. NoneHasAPoint (row_questions context ranges systems rows i row m)) at
     (row_asked context ranges systems rows rs ms (suc k) j row m (λ q h. none q (to_second (row_questions context ranges systems rows k r n) (questions_from context ranges systems rows (suc k) rs ms) q h)) e f)
 
-modulus_at : (ms : List Modulus) (k : ℕ) (b : Affine) → slice_get (forms_of ms) k ≡ Some b → (m : Modulus) × (slice_get ms k ≡ Some m) × (m.form ≡ b)
+pub modulus_at : (ms : List Modulus) (k : ℕ) (b : Affine) → slice_get (forms_of ms) k ≡ Some b → (m : Modulus) × (slice_get ms k ≡ Some m) × (m.form ≡ b)
 modulus_at [] k b e = absurd (omega (arith, slice_get_within [] k b e))
 modulus_at (m ∷ ms) zero b e = (m, refl, same_Some m.form b e)
 modulus_at (m ∷ ms) (suc k) b e = modulus_at ms k b e

@@ -34,7 +34,7 @@ columns-differences n (x ∷ xs) (y ∷ ys) h k =
     All-cons (λ (g : Affine). length g.coefs ≡ n) _ _ (length-mixed (pos 1) x.coefs (negsuc 0) y.coefs (wx ∙ sym wy) ∙ wx)
     (columns-differences n xs ys (All-tail (λ (g : Affine). length g.coefs ≡ n) x xs h) (All-tail (λ (g : Affine). length g.coefs ≡ n) y ys k))
 
-length-differences : (xs ys : List Affine) → length ys ≡ length xs → length (differences xs ys) ≡ length xs
+pub length-differences : (xs ys : List Affine) → length ys ≡ length xs → length (differences xs ys) ≡ length xs
 length-differences [] ys e = refl
 length-differences (x ∷ xs) [] e = absurd (omega arith)
 length-differences (x ∷ xs) (y ∷ ys) e = ap suc (length-differences xs ys (omega arith))
@@ -70,7 +70,7 @@ module _ (row : Affine) (n : ℕ) where
 
 -- ---- a modulus over more columns
 
-dot-widened : (cs : List ℤ) (m : ℕ) (z : List ℤ) → dot (cs ++ replicate m (pos 0)) z ≡ dot cs (take (length cs) z)
+pub dot-widened : (cs : List ℤ) (m : ℕ) (z : List ℤ) → dot (cs ++ replicate m (pos 0)) z ≡ dot cs (take (length cs) z)
 dot-widened [] m z = zeros m z
   where
     zeros : (m : ℕ) (z : List ℤ) → dot (replicate m (pos 0)) z ≡ pos 0

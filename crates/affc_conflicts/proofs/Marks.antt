@@ -1,5 +1,5 @@
 -- What the rows of a mark show.
-use Rattle.std.proofs.Common.{◌≡◌, inl, inr, ℕ, zero, suc, ◌+◌, ◌<◌, ◌≤◌, List, [], ◌∷◌, ◌++◌, length, take, ℤ, pos, negsuc, ◌+ℤ◌, ◌-ℤ◌, ◌*ℤ◌, ◌≤ℤ◌, ◌<ℤ◌, neg_ℤ, refl, sym, ap, subst, ◌∙◌, arith}
+use Rattle.std.proofs.Common.{◌≡◌, inl, inr, ℕ, zero, suc, ◌+◌, ◌<◌, ◌≤◌, List, [], ◌∷◌, ◌++◌, length, take, ℤ, pos, negsuc, ◌+ℤ◌, ◌-ℤ◌, ◌*ℤ◌, ◌≤ℤ◌, ◌<ℤ◌, refl, sym, ap, subst, ◌∙◌, arith}
 use Rattle.std.specs.Prelude.{unsigned_abs, slice_get, Some}
 use Rattle.std.proofs.lemmas.Int.{ints}
 use Rattle.std.proofs.lemmas.Option.{slice_get_within, same_Some}
@@ -47,9 +47,6 @@ less_one u v b w e f g = omega (arith, ints)
 
 sized : (d v u b : ℤ) → d ≡ v → u ≡ b -ℤ pos 1 → d ≤ℤ u → u ≤ℤ d → pos 1 ≤ℤ d → (b ≡ pos (unsigned_abs v + 1)) × (1 ≤ unsigned_abs v)
 sized d v u b e f h k l = (omega (arith, ints), omega (arith, ints))
-
-turned_size : (a c : ℤ) → a ≡ neg_ℤ c → unsigned_abs a ≡ unsigned_abs c
-turned_size a c h = omega (arith, ints)
 
 below_next : (n m : ℕ) (b : ℤ) → b ≡ pos (m + 1) → pos n <ℤ b → n ≤ m
 below_next n m b e h = omega (arith, ints)

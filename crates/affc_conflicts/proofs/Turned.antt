@@ -28,7 +28,7 @@ dot-turned (c ∷ cs) [] (y ∷ ys) = refl
 dot-turned (c ∷ cs) (x ∷ xs) [] = refl
 dot-turned (c ∷ cs) (x ∷ xs) (y ∷ ys) = both_turned _ _ _ _ (times_turned c x y) (dot-turned cs xs ys)
 
-same_size : (a b : ℤ) → a ≡ neg_ℤ b → unsigned_abs a ≡ unsigned_abs b
+pub same_size : (a b : ℤ) → a ≡ neg_ℤ b → unsigned_abs a ≡ unsigned_abs b
 same_size a b h = omega (arith, ints)
 
 -- the distance is the same both ways

@@ -15,33 +15,32 @@ use Rattle.affc_ast.specs.Trace.{trace, loads_of, store_of}
 use Rattle.affc_trace.specs.Dataflow.{IsSource}
 use Rattle.affc_trace.specs.Law.{IsIn}
 use Rattle.affc_trace.proofs.LastStores.{append_nil}
-use Rattle.affc_trace.proofs.Runs.{length_append}
+use Rattle.affc_trace.proofs.Runs.{length_append, slice_left}
 use Rattle.affc_domain.specs.Accesses.{accesses_of}
 use Rattle.affc_domain.specs.Plain.{plain_range, plain_ranges, all_plain, plain_value}
 use Rattle.affc_domain.specs.Ranges.{is_near, number_ranges}
 use Rattle.affc_domain.specs.Rounds.{loops_in}
-use Rattle.affc_domain.proofs.Lists.{both_true, length_map}
+use Rattle.affc_domain.proofs.Lists.{both_true, length_map, stands_in, to_mapped}
 use Rattle.affc_domain.proofs.PlainLemmas.{assignments_are_plain}
-use Rattle.affc_domain.proofs.RangeLemmas.{in_ranges}
+use Rattle.affc_domain.proofs.RangeLemmas.{in_ranges, box_append}
 use Rattle.affc_nest.specs.declared.nest.Access.{Access}
 use Rattle.affc_nest.specs.declared.nest.Entry.{Entry}
 use Rattle.affc_nest.specs.declared.nest.Nest.{Nest}
 use Rattle.affc_nest.specs.Laws.{HasNest, IsEntry, element_at}
 use Rattle.affc_nest.specs.Nests.{access_form, nest_of}
 use Rattle.affc_nest.proofs.EntryLemmas.{site_of, entries_stand, ranges_hold_iterators}
-use Rattle.affc_nest.proofs.QuestionLemmas.{there_is, stands_in}
-use Rattle.affc_sched.proofs.LegalLemmas.{entry_at, box_append, events_are}
+use Rattle.affc_sched.proofs.LegalLemmas.{entry_at, events_are}
 use Rattle.affc_sched.proofs.Lists.{all_from}
 use Rattle.affc_quast.specs.Limits.{narrow, AreTreesWithin}
 use Rattle.affc_quast.specs.Paths.{IsNear}
 use Rattle.affc_quast.specs.Sources.{loads_in, loads_before}
 use Rattle.affc_quast.specs.Trees.{Tree, Input, named_at, quotients_at}
+use Rattle.affc_flow.proofs.FlowLemmas.{load_access}
 use Rattle.affc_dataflow.specs.Finds.{NameAll, AreInputs, IsTreeFor, AreTreesOf, AreTreesFrom, AddsTreesFrom}
 use Rattle.affc_flow.specs.Laws.{Loads}
 use Rattle.affc_flow.specs.Questions.{is_temporary}
 use Rattle.affc_dataflow.specs.Searches.{IsRightAt, Covers, Fuel, IsSlightRange, IsLoad}
 use Rattle.affc_latest.specs.Stores.{IsNamedNest}
-use Rattle.affc_flow.proofs.FlowLemmas.{mapped_at, front_at}
 use Rattle.affc_latest.proofs.LastLemmas.{within}
 use Rattle.affc_flow.proofs.PathLemmas.{parameters_are, reader_stands}
 
@@ -214,7 +213,7 @@ entry_tree nest [] ts s k e x h g a l = absurd (none-some e g)
 entry_tree nest (c ∷ es) ts zero k e x h g a l =
     let same = same_Some c e g in
     let r = load_tree nest e e.accesses h.0 k x (subst (λ (z : Entry). AreTreesOf nest z z.accesses h.0) same h.3) a l in
-    record { tree = r.tree; there = subst (λ us. slice_get us (0 + k) ≡ Some r.tree) (sym h.2) (subst (λ m. slice_get (h.0 ++ h.1) m ≡ Some r.tree) (plain k) (front_at h.0 h.1 k r.tree r.there)); is = r.is }
+    record { tree = r.tree; there = subst (λ us. slice_get us (0 + k) ≡ Some r.tree) (sym h.2) (subst (λ m. slice_get (h.0 ++ h.1) m ≡ Some r.tree) (plain k) (slice_left h.0 h.1 k r.tree r.there)); is = r.is }
   where
     plain : (k : ℕ) → k ≡ 0 + k
     plain k = omega arith
@@ -237,13 +236,6 @@ all_long nest (e ∷ es) ts h =
 
 -- ---- The trees of all loads
 
--- the access of a load
-load_of : (e : Entry) (k : ℕ) → k < loads_in e → (x : Access) × (slice_get e.accesses k ≡ Some x)
-load_of e k l = there_is e.accesses k (fewer (length e.accesses) l)
-  where
-    fewer : (n : ℕ) → k < n - 1 → k < n
-    fewer n h = omega (arith, h)
-
 module _ (nest : Nest) (trees : List Tree) (h : AreTreesFrom nest nest.entries trees) where
   pub all_within : AreTreesWithin narrow 302 12 nest trees
   all_within = record {
@@ -253,14 +245,14 @@ module _ (nest : Nest) (trees : List Tree) (h : AreTreesFrom nest nest.entries t
 
   pub all_inputs : AreInputs nest trees
   all_inputs s k e tree at dead less there =
-      let a = load_of e k less in
+      let a = load_access e k less in
       let r = entry_tree nest nest.entries trees s k e a.0 h at a.1 less in
       sym (same_Some r.tree tree (sym r.there ∙ there)) ∙ r.is.none dead
 
   pub all_named : NameAll nest trees
   all_named program p is has named inside = record {
     sources = λ s k e at less.
-        let a = load_of e k less in
+        let a = load_access e k less in
         let r = entry_tree nest nest.entries trees s k e a.0 h at a.1 less in
         (r.tree, r.there, λ b x number runs load. source_at s k e a.0 r.tree at a.1 r.is b x number runs load);
     written = λ s k e x tree b at less there temp tree_at number runs.
@@ -269,7 +261,7 @@ module _ (nest : Nest) (trees : List Tree) (h : AreTreesFrom nest nest.entries t
         subst (λ t. (w : Instance) × (named_at t (p ++ b.iterators) ≡ Some w)) same
         ((right_at s k e x r.tree at there r.is b number runs).source.written (subst (λ n. IsTrue (is_temporary n x.array.0)) is temp));
     near = λ s k e tree at less tree_at b number runs.
-        let a = load_of e k less in
+        let a = load_access e k less in
         let r = entry_tree nest nest.entries trees s k e a.0 h at a.1 less in
         subst (λ t. All IsNear (quotients_at t (p ++ b.iterators))) (same_Some r.tree tree (sym r.there ∙ tree_at)) (right_at s k e a.0 r.tree at a.1 r.is b number runs).near;
   }
@@ -303,8 +295,8 @@ module _ (nest : Nest) (trees : List Tree) (h : AreTreesFrom nest nest.entries t
           let st = reader_stands program p b.iterators e a loads in
           let element : element_at (p ++ b.iterators) a ≡ x =
           same_Some (element_at (p ++ b.iterators) a) x
-          (sym (mapped_at (element_at (p ++ b.iterators)) e.accesses k a there) ∙ ap (λ es. slice_get es k) (events_are program has p l e b.iterators st)
-          ∙ front_at (loads_of program p here) (store_of program p here ∷ []) k x (subst (λ i. slice_get (loads_of program p i) k ≡ Some x) same load)) in
+          (sym (to_mapped (element_at (p ++ b.iterators)) e.accesses k a there) ∙ ap (λ es. slice_get es k) (events_are program has p l e b.iterators st)
+          ∙ slice_left (loads_of program p here) (store_of program p here ∷ []) k x (subst (λ i. slice_get (loads_of program p i) k ≡ Some x) same load)) in
           subst (λ i. IsSource program p i x (named_at tree (p ++ b.iterators))) (sym same)
           (subst (λ x. IsSource program p here x (named_at tree (p ++ b.iterators))) element (right_at s k e a tree at there t b number runs).source.is)
 

@@ -27,7 +27,7 @@ use Rattle.affc_nest.specs.Nests.{nest_of}
 use Rattle.affc_nest.specs.Wide.{IsWide}
 use Rattle.affc_nest.proofs.DomainLemmas.{from_all, met_append}
 use Rattle.affc_nest.proofs.EntryLemmas.{points_are_instances}
-use Rattle.affc_nest.proofs.QuestionLemmas as first
+use Rattle.affc_domain.proofs.Lists as first
 use Rattle.affc_order.specs.Placed.{IsPlaced}
 use Rattle.affc_order.specs.Posed.{Posed}
 use Rattle.affc_order.specs.Systems.{loops_or_none}
@@ -149,9 +149,6 @@ module _ (nest : Nest) (e : Entry) (x : Access) (number : ℕ) (h : IsLoad nest 
   }
 
 -- ---- Paths
-
-spread_widened : (f : Affine) → spread 0 0 1 f ≡ widened 1 f
-spread_widened f = refl
 
 spread_rows : (rows : List Affine) → map (spread 0 0 1) rows ≡ map (widened 1) rows
 spread_rows [] = refl

@@ -8,10 +8,10 @@ use Rattle.std.proofs.lemmas.Bool.Decides.{nat_tests}
 use Rattle.std.proofs.lemmas.Int.{ints, to_z-of_z}
 use Rattle.std.proofs.lemmas.List.Elements.{All-tail}
 use Rattle.affc_split.specs.Budgets.{Account, IsLater}
+use Rattle.affc_domain.proofs.Lists.{first_and_rest}
 use Rattle.affc_nest.specs.declared.nest.Access.{Access}
 use Rattle.affc_nest.specs.declared.nest.Entry.{Entry}
 use Rattle.affc_nest.specs.declared.nest.Nest.{Nest}
-use Rattle.affc_sched.proofs.Lists.{front_is}
 use Rattle.affc_quast.specs.Trees.{Tree, depth_of}
 use Rattle.affc_dataflow.specs.Searches.{Covers, part_box, Fuel, IsSlight, IsSlightRange}
 use Rattle.affc_dataflow.proofs.HalfLemmas.{low_fuel, high_fuel}
@@ -103,7 +103,7 @@ equal_ends low high h k = omega (arith, ints)
 
 pub first_there : (rs : List (ℤ × ℤ)) (d : ℤ × ℤ) → 1 ≤ length rs → rs ≡ get_or rs 0 d ∷ take (length rs - 1) (drop 1 rs)
 first_there [] d h = absurd (omega (arith, h))
-first_there (r ∷ rs) d h = front_is (r ∷ rs) r h refl
+first_there (r ∷ rs) d h = first_and_rest (r ∷ rs) r h refl
 
 pub next_width : (point whole : List ℤ) (x : ℤ) (rs more : List (ℤ × ℤ)) (r : ℤ × ℤ) (n : ℕ) → whole ≡ point ++ x ∷ [] → rs ≡ r ∷ more → (length point + 1) + length rs ≡ n → (length whole + 1) + length more ≡ n
 next_width point whole x rs more r n w q e = sum (length point) (length whole) (length rs) (length more) n (ap length w ∙ longer point x) (ap length q) e

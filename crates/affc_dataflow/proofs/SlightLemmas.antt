@@ -11,12 +11,6 @@ use Rattle.affc_nest.proofs.QuestionProofs.{nest_few, few_numbered}
 use Rattle.affc_dataflow.specs.Searches.{IsSlight, IsLoad}
 use Rattle.affc_latest.proofs.BesideLemmas.{is_nest}
 
-pub slight_near : (x : ℤ) → IsSlight x → unsigned_abs x ≤ 2 ^ 60
-slight_near x h = near (unsigned_abs x) h
-  where
-    near : (n : ℕ) → n ≤ 2 ^ 40 → n ≤ 2 ^ 60
-    near n h = omega (arith, h)
-
 -- between two such numbers
 pub middle_slight : (low high at : ℤ) → IsSlight low → IsSlight high → low ≤ℤ at → at <ℤ high → IsSlight at
 middle_slight low high at a b h g = inner low high at a b h g

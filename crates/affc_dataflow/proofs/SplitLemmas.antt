@@ -2,10 +2,10 @@
 use Rattle.std.proofs.Common.{◌≡◌, List, [], ◌∷◌, ◌++◌, map, sym, ap, subst, ◌∙◌, inl, inr}
 use Rattle.affc_trace.proofs.EndedReads.{append_assoc}
 use Rattle.affc_trace.proofs.LastStores.{map_append}
+use Rattle.affc_trace.proofs.Once.{in_append}
 use Rattle.affc_nest.specs.declared.nest.Entry.{Entry}
 use Rattle.affc_nest.specs.declared.nest.Nest.{Nest}
 use Rattle.affc_quast.specs.Trees.{Tree}
-use Rattle.affc_latest.proofs.Lists.{in_parts}
 use Rattle.affc_dataflow.specs.Finds.{AreTreesFrom, AddsTreesFrom}
 use Rattle.affc_flow.specs.Laws.{NoneHasAPoint}
 use Rattle.affc_flow.specs.Questions.{Question}
@@ -15,7 +15,7 @@ use Rattle.affc_dataflow.specs.declared.asked.Question as held
 -- ---- Questions
 
 none_in_parts : (xs ys : List Question) → NoneHasAPoint xs → NoneHasAPoint ys → NoneHasAPoint (xs ++ ys)
-none_in_parts xs ys f g q i = elim (in_parts xs ys q i) [
+none_in_parts xs ys f g q i = elim (in_append xs ys q i) [
   | inl j ↦ f q j
   | inr j ↦ g q j
 ]

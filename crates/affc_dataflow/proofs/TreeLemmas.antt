@@ -12,6 +12,7 @@ use Rattle.affc_ast.specs.Trace.{loads_of, store_of}
 use Rattle.affc_trace.specs.Law.{IsIn}
 use Rattle.affc_domain.specs.Ranges.{number_ranges}
 use Rattle.affc_domain.proofs.FormLemmas.{number_value, number_width}
+use Rattle.affc_domain.proofs.ColumnLemmas.{no_columns, more_columns, cons_is}
 use Rattle.affc_nest.specs.Domains.{number_form}
 use Rattle.affc_nest.specs.declared.nest.Access.{Access}
 use Rattle.affc_nest.specs.declared.nest.Entry.{Entry}
@@ -19,7 +20,6 @@ use Rattle.affc_nest.specs.declared.nest.Nest.{Nest}
 use Rattle.affc_nest.specs.Laws.{element_at}
 use Rattle.affc_nest.specs.Nests.{nest_of}
 use Rattle.affc_nest.proofs.EntryLemmas.{entries_stand, points_are_instances}
-use Rattle.affc_order.proofs.ColumnLemmas.{cons_is, no_columns, more_columns}
 use Rattle.affc_sched.proofs.LegalLemmas.{Stood, entry_at, events_are}
 use Rattle.affc_quast.specs.Limits.{narrow, FitsForm, IsTreeWithin}
 use Rattle.affc_quast.specs.Paths.{IsNear}
@@ -32,15 +32,6 @@ use Rattle.affc_dataflow.specs.Unwritten.{LoadsUnwritten, IsUnwritten}
 use Rattle.affc_latest.proofs.LastLemmas.{pinned_is}
 use Rattle.affc_flow.proofs.LoadLemmas.{load_there}
 use Rattle.affc_flow.proofs.PathLemmas.{parameters_are, reader_stands}
-
--- ---- Numbers
-
-near_all : (xs : List ℤ) → All IsSlight xs → All IsNear xs
-near_all [] h = All-nil IsNear
-near_all (x ∷ xs) h = All-cons IsNear x xs (near x (All-head IsSlight x xs h)) (near_all xs (All-tail IsSlight x xs h))
-  where
-    near : (x : ℤ) → unsigned_abs x ≤ 2 ^ 40 → unsigned_abs x ≤ 2 ^ 60
-    near x h = omega (arith, h)
 
 -- ---- Forms of numbers
 
@@ -152,7 +143,7 @@ module _ (nest : Nest) (e : Entry) (x : Access) (number : ℕ) (h : IsLoad nest 
 
     -- nothing stores it before, though it is a temporary's
     pub is_unwritten : length its ≡ length e.loops → IsPoint e.domain (p ++ its) → IsReadFrom nest e x p its None → IsTrue (is_temporary nest x.array.0)
-        → IsUnwritten nest number p (record { statement = e.statement; iterators = its })
+        → IsUnwritten nest x.array.0 number p (record { statement = e.statement; iterators = its })
     is_unwritten k m from temp = λ program is has named.
         let b : Instance = record { statement = e.part; iterators = its } in
         let i : IsIn e (nest_of program).entries = subst (λ (n : Nest). IsIn e n.entries) is h.touched.there in
@@ -163,11 +154,12 @@ module _ (nest : Nest) (e : Entry) (x : Access) (number : ℕ) (h : IsLoad nest 
         let ev = events_are program has p l' e its s in
         let loads : Loads program p its e x = record { has = has; named = named; context = r.0; entry = at; made = h.touched.among; runs = r.1 } in
         let own : e.statement ≡ e.part = ((entries_stand program has).1 e.part e at).statement in
-        subst (λ j. LoadsUnwritten program number p (record { statement = j; iterators = its })) (sym own)
+        subst (λ j. LoadsUnwritten program x.array.0 number p (record { statement = j; iterators = its })) (sym own)
         record {
           context = r.0;
           runs = r.1;
           element = element_at (p ++ its) x;
+          of_array = refl;
           loaded = load_there (element_at (p ++ its)) e.accesses (loads_of program p b) (store_of program p b) number x ev h.there h.load;
           temporary = subst (λ n. IsTrue (is_temporary n x.array.0)) is temp;
           none = from program is loads;

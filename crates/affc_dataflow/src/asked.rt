@@ -10,9 +10,9 @@ ghost use Rattle.affc_questions.specs.Listed.{in_ranges};
 ghost use Rattle.affc_dataflow.specs.Guesses.{asked, leaf_under};
 ghost use Rattle.affc_dataflow.specs.Searches.{IsLoad};
 
-use affc_flow::asking::are_rows;
+use crate::path::Place;
 use affc_flow::load::Load;
-use affc_flow::questions::{Place, Unasked};
+use affc_flow::questions::Unasked;
 use affc_flow::ranges::joined_ranges;
 use affc_nest::Nest;
 use affc_nest::lists::copied;
@@ -20,7 +20,7 @@ use affc_quast::leaves::{Leaf, Named};
 use affc_questions::ranged::systems;
 use affc_questions::{Ranged, leaf_questions};
 use affc_rows::Form;
-use affc_system::{BoxOf, System};
+use affc_system::{BoxOf, System, are_rows};
 use sqlite_items::Items;
 use std::alloc::{AllocError, Global};
 

@@ -8,8 +8,9 @@ ghost use Rattle.affc_quast.specs.Trees.{Div};
 ghost use Rattle.affc_dataflow.specs.Guesses.{CoversOn, IsQuotientRange, divided_path};
 
 use crate::guess::Depth;
+use crate::path::{Place, push_rows, push_spread};
 use affc_flow::load::Load;
-use affc_flow::questions::{Place, Unasked, push_rows, push_spread};
+use affc_flow::questions::Unasked;
 use affc_nest::Division;
 use affc_nest::divisions::add_division;
 use affc_quast::Quast;

@@ -13,11 +13,11 @@ use crate::growth::{
     missing_division,
 };
 use crate::guess::{Depth, first_open, has_none_with, joined, leaf_of, sides_of};
+use crate::path::Place;
 use crate::samples::{Help, Parting, helped};
 use crate::tested::{input_leaf, is_narrow};
 use affc_drafts::{Candidate, Guess, ROOM, drafts};
 use affc_flow::load::Load;
-use affc_flow::questions::Place;
 use affc_nest::Division;
 use affc_quast::Quast;
 use affc_rows::Form;

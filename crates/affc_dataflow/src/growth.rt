@@ -3,8 +3,8 @@
 //! A candidate is over the columns of the load and, behind them, the quotients of all divisions that are known. A path has some
 //! of these, in an order of its own.
 
+use crate::path::Place;
 use affc_drafts::Candidate;
-use affc_flow::questions::Place;
 use affc_nest::Division;
 use affc_rows::Form;
 use smallvec::SmallVec;

@@ -9,11 +9,12 @@ ghost use Rattle.affc_quast.specs.Trees.{Test};
 ghost use Rattle.affc_dataflow.specs.Guesses.{CoversOn};
 ghost use Rattle.affc_dataflow.specs.Searches.{IsLoad};
 
+use crate::path::{Place, negation, push_row, push_rows};
 use crate::tested::{has_none, is_narrow, source_leaf};
 use affc_drafts::{Candidate, stands};
 use affc_flow::asking::store_for;
 use affc_flow::load::Load;
-use affc_flow::questions::{Place, Unasked, negation, push_row, push_rows};
+use affc_flow::questions::Unasked;
 use affc_quast::Quast;
 use affc_rows::Form;
 use affc_split::{Budget, Stop};

@@ -9,6 +9,7 @@ mod growth;
 mod guess;
 pub mod laws;
 mod parts;
+mod path;
 mod samples;
 mod search;
 pub mod stop;

@@ -78,11 +78,12 @@ fn unwritten(
     p: &[i64],
     iterators: &[i64],
 ) -> Result<FlowStop, AllocError>
-    ensures { IfOk result (λ s. s ≡ FlowStop.Unwritten load.now.number p.now (record { statement = load.now.reader.now.statement; iterators = iterators.now })) }
+    ensures { IfOk result (λ s. s ≡ FlowStop.Unwritten load.now.access.now.array load.now.number p.now (record { statement = load.now.reader.now.statement; iterators = iterators.now })) }
 {
     let p = Items::from_slice(alloc, p)?;
     let iterators = Items::from_slice(alloc, iterators)?;
     Ok(FlowStop::Unwritten {
+        array: load.access.array,
         access: load.number,
         p,
         instance: Instance {

@@ -1,6 +1,6 @@
 //! Why there are no trees.
 
-use affc_ast::tree::Instance;
+use affc_ast::tree::{ArrayId, Instance};
 use affc_split::Stop;
 use sqlite_items::Items;
 use std::alloc::AllocError;
@@ -9,10 +9,11 @@ use thiserror::Error;
 /// Why there are no trees of all loads.
 #[derive(Debug, Drop, Error)]
 pub enum FlowStop {
-    /// At `p`, the values of the number parameters, this load of the instance, counted from 0, is of an element of a temporary
-    /// that no instance before stores.
+    /// At `p`, the values of the number parameters, this load of the instance, counted from 0, is of an element of this
+    /// temporary that no instance before stores.
     #[error("load {access} of statement {} reads what nothing stores", instance.statement)]
     Unwritten {
+        array: ArrayId,
         access: u32,
         p: Items<i64>,
         instance: Instance,

@@ -13,8 +13,9 @@ ghost use Rattle.affc_dataflow.specs.Searches.{IsLoad};
 ghost use Rattle.affc_flow.specs.Writers.{Writes};
 
 use crate::asked::{Question, input_questions, source_questions};
+use crate::path::Place;
 use affc_flow::load::Load;
-use affc_flow::questions::{Place, Unasked, have_columns};
+use affc_flow::questions::{Unasked, have_columns};
 use affc_nest::lists::copied;
 use affc_nest::{Access, Entry};
 use affc_quast::Quast;

@@ -1,34 +1,36 @@
 -- The value of an expression's form is the expression's value.
-use Rattle.std.proofs.Common.{◌≡◌, ℕ, zero, suc, ◌+◌, ℤ, pos, negsuc, ◌+ℤ◌, ◌*ℤ◌, ◌-ℤ◌, neg_ℤ, Bool, true, false, IsTrue, List, [], ◌∷◌, ◌++◌, length, replicate, get_or, refl, sym, ap, ◌∙◌, subst, arith, ◌⊎◌, inl, inr}
-use Rattle.std.specs.Prelude.{not, ◌&&◌, ◌||◌, if◌then◌else◌}
+use Rattle.std.proofs.Common.{◌≡◌, ℕ, zero, suc, ◌+◌, ℤ, pos, negsuc, ◌+ℤ◌, ◌*ℤ◌, ◌-ℤ◌, neg_ℤ, Bool, true, false, IsTrue, List, [], ◌∷◌, ◌++◌, length, replicate, get_or, refl, sym, ap, ◌∙◌, subst, arith, ◌⊎◌, inl, inr, ◌≤◌}
+use Rattle.std.specs.Prelude.{not, ◌&&◌, ◌||◌, if◌then◌else◌, nat_le, nat_abs, unsigned_abs}
+use Rattle.std.specs.List.{All}
+use Rattle.std.proofs.lemmas.Bool.{leb-true}
 use Rattle.std.proofs.lemmas.Int.{ints}
+use Rattle.std.proofs.lemmas.List.{length-replicate}
+use Rattle.std.proofs.lemmas.List.Elements.{All-nil, All-cons}
 use lib.IntN.{*ℤ_comm}
 use Rattle.affc_rows.specs.Forms.{Affine, value, dot, mixed_form}
 use Rattle.affc_rows.proofs.ValueLemmas.{value-mixed, dot-mixed, length-mixed}
+use Rattle.affc_rows.proofs.VocabularyLemmas.{unit_width}
 use Rattle.affc_ast.specs.declared.tree.Ix.{Ix}
 use Rattle.affc_ast.specs.declared.tree.Ix.TheVariants as c
 use Rattle.affc_ast.specs.declared.tree.Ix.TheBlock.{more_of-Ix, end_of-Ix}
 use Rattle.affc_ast.specs.Fits.{whole}
+use Rattle.affc_trace.specs.Target.{are_slight}
+use Rattle.affc_trace.proofs.Runs.{length_append}
 use Rattle.affc_domain.specs.Laws.{FormsHaveTheValue}
 use Rattle.affc_domain.specs.Affine.{unit_of, Linear, linear, negative, mixture, multiple, form_of, is_affine}
+use Rattle.affc_domain.proofs.Lists.{both_true}
 
-length_replicate : (n : ℕ) (x : ℤ) → length (replicate n x) ≡ n
-length_replicate zero x = refl
-length_replicate (suc n) x = ap suc (length_replicate n x)
-
-length_append : (xs ys : List ℤ) → length (xs ++ ys) ≡ length xs + length ys
-length_append [] ys = omega arith
-length_append (x ∷ xs) ys = omega (arith, length_append xs ys)
-
-length_unit : (n x : ℕ) → length (unit_of n x) ≡ n
-length_unit zero x = refl
-length_unit (suc n) zero = ap suc (length_replicate n (pos 0))
-length_unit (suc n) (suc x) = ap suc (length_unit n x)
-
-dot_zeros : (n : ℕ) (xs : List ℤ) → dot (replicate n (pos 0)) xs ≡ pos 0
+pub dot_zeros : (n : ℕ) (xs : List ℤ) → dot (replicate n (pos 0)) xs ≡ pos 0
 dot_zeros zero xs = refl
 dot_zeros (suc n) [] = refl
 dot_zeros (suc n) (x ∷ xs) = omega (arith, ints, dot_zeros n xs)
+
+-- further coefficients of 0 give the same
+pub dot_widened : (cs xs ys : List ℤ) (n : ℕ) → length cs ≡ length xs → dot (cs ++ replicate n (pos 0)) (xs ++ ys) ≡ dot cs xs
+dot_widened [] [] ys n l = dot_zeros n ys
+dot_widened [] (x ∷ xs) ys n l = absurd (omega arith)
+dot_widened (c ∷ cs) [] ys n l = absurd (omega arith)
+dot_widened (c ∷ cs) (x ∷ xs) ys n l = omega (arith, ints, dot_widened cs xs ys n (omega arith))
 
 -- the form of a name gives the name's value
 dot_unit : (names more : List ℤ) (x n : ℕ) → dot (unit_of (length names) x ++ replicate n (pos 0)) (names ++ more) ≡ get_or names x (pos 0)
@@ -46,8 +48,8 @@ dot_unit (y ∷ names) more (suc x) n = omega (arith, ints, dot_unit names more 
 -- ---- The number of coefficients
 
 pub form_width : (n m : ℕ) (e : Ix) → length (form_of n m e).coefs ≡ n + m
-form_width n m (c.Lit k) = length_replicate (n + m) (pos 0)
-form_width n m (c.Name x) = length_append (unit_of n x.0) (replicate m (pos 0)) ∙ ap (λ z. z + length (replicate m (pos 0))) (length_unit n x.0) ∙ ap (λ z. n + z) (length_replicate m (pos 0))
+form_width n m (c.Lit k) = length-replicate (n + m) (pos 0)
+form_width n m (c.Name x) = length_append (unit_of n x.0) (replicate m (pos 0)) ∙ ap (λ z. z + length (replicate m (pos 0))) (unit_width n x.0) ∙ ap (λ z. n + z) (length-replicate m (pos 0))
 form_width n m (c.Neg' s (more_of-Ix a end_of-Ix)) = length-mixed (negsuc 0) _ (pos 0) _ refl ∙ form_width n m a
 form_width n m (c.Add' s (more_of-Ix a end_of-Ix) t (more_of-Ix b end_of-Ix)) = length-mixed (pos 1) _ (pos 1) _ (form_width n m a ∙ sym (form_width n m b)) ∙ form_width n m a
 form_width n m (c.Sub' s (more_of-Ix a end_of-Ix) t (more_of-Ix b end_of-Ix)) = length-mixed (pos 1) _ (negsuc 0) _ (form_width n m a ∙ sym (form_width n m b)) ∙ form_width n m a
@@ -107,7 +109,7 @@ right_true : (a b : Bool) → IsTrue (a && b) → IsTrue b
 right_true true b h = h
 right_true false b h = absurd (cc)
 
-three : (a b d : Bool) → IsTrue (a && b && d) → IsTrue a × IsTrue b × IsTrue d
+pub three : (a b d : Bool) → IsTrue (a && b && d) → IsTrue a × IsTrue b × IsTrue d
 three true true true h = (refl, refl, refl)
 three true true false h = absurd (cc)
 three true false d h = absurd (cc)
@@ -214,7 +216,7 @@ product_right names more a b x y r q one = elim (bool_cases a.named) [
 -- the form of an affine expression gives its value, at the visible names and whatever comes after them
 is_right : (names more : List ℤ) (e : Ix) → IsTrue (linear (length names) (length more) e).affine → Right names more (linear (length names) (length more) e) (whole e names)
 is_right names more (c.Lit k) h = record {
-  width = length_replicate _ (pos 0) ∙ sym (length_append names more);
+  width = length-replicate _ (pos 0) ∙ sym (length_append names more);
   gives = omega (arith, ints, dot_zeros (length names + length more) (names ++ more));
   fixed = λ _. dot_zeros (length names + length more) (names ++ more);
 }
@@ -258,14 +260,19 @@ column_value xs j = omega (arith, ints, dot_column xs j)
     dot_column (x ∷ xs) zero = omega (arith, ints, dot_zeros (length xs) xs)
     dot_column (x ∷ xs) (suc j) = omega (arith, ints, dot_column xs j)
 
-pub unit_width : (n x : ℕ) → length (unit_of n x) ≡ n
-unit_width = length_unit
-
 pub number_width : (n : ℕ) (z : ℤ) → length (replicate n (pos 0)) ≡ n
-number_width n z = length_replicate n (pos 0)
+number_width n z = length-replicate n (pos 0)
 
 pub number_value : (n : ℕ) (z : ℤ) (xs : List ℤ) → value (record { coefs = replicate n (pos 0); constant = z }) xs ≡ z
 number_value n z xs = omega (arith, ints, dot_zeros n xs)
 
 pub forms_have_the_value : FormsHaveTheValue
 forms_have_the_value = value_of_form
+
+-- ---- Sizes
+
+pub slight_coefs : (cs : List ℤ) → IsTrue (are_slight cs) → All (λ c. unsigned_abs c ≤ 256) cs
+slight_coefs [] h = All-nil (λ c. unsigned_abs c ≤ 256)
+slight_coefs (c ∷ cs) h =
+    let a = both_true (nat_le (nat_abs c) 256) (are_slight cs) h in
+    All-cons (λ c. unsigned_abs c ≤ 256) c cs (leb-true (nat_abs c) 256 a.0) (slight_coefs cs a.1)

@@ -1,6 +1,8 @@
 pub mod Lists
+pub mod ColumnLemmas
 pub mod FormLemmas
 pub mod TurnLemmas
+pub mod StartLemmas
 pub mod OrderLemmas
 pub mod PlainLemmas
 pub mod RangeLemmas

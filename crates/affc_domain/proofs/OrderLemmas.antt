@@ -2,8 +2,8 @@
 use Rattle.std.proofs.Common.{◌≡◌, ℕ, zero, suc, ◌+◌, ◌<◌, ◌≤◌, ℤ, pos, ◌+ℤ◌, ◌≤ℤ◌, Bool, true, false, if◌then◌else◌, List, [], ◌∷◌, ◌++◌, length, map, flat_map, sum_by, Some, refl, sym, ap, subst, ◌∙◌, ◌⊎◌, inl, inr, arith}
 use Rattle.std.specs.Prelude.{slice_get, nat_eq}
 use Rattle.std.proofs.lemmas.Int.{ints}
-use Rattle.std.proofs.lemmas.Bool.Decides.{nat_tests}
 use Rattle.std.proofs.lemmas.List.Sums.{sum_by-cons}
+use Rattle.std.proofs.lemmas.Option.{slice_get_within}
 use Rattle.affc_ast.specs.declared.tree.Instance.{Instance}
 use Rattle.affc_ast.specs.declared.tree.Stmt.{Stmt}
 use Rattle.affc_ast.specs.declared.tree.Stmt.TheVariants as s
@@ -24,7 +24,9 @@ use Rattle.affc_trace.proofs.Members.{to_flat_map}
 use Rattle.affc_trace.proofs.LastStores.{append_nil}
 use Rattle.affc_trace.proofs.EndedReads.{append_assoc}
 use Rattle.affc_domain.specs.Laws.{OrderOfTheText}
-use Rattle.affc_domain.specs.Loops.{Numbered, all_loops, in_text_order, numbered_step, loop_numbers, shared, IsBefore}
+use Rattle.affc_domain.specs.Loops.{Numbered, in_text_order, numbered_step, loop_numbers, shared, IsBefore}
+use Rattle.affc_domain.proofs.Lists.{to_mapped, length_map}
+use Rattle.affc_domain.proofs.StartLemmas.{StartIn, shared_none, shared_same, starts, row_starts}
 
 -- ---- Lists
 
@@ -85,53 +87,16 @@ record Compared (numbers : List (List ℕ)) (k : ℕ) (ts : List ℤ) (a b : Ins
   second : Placed numbers k ts b
   before : IsBefore (shared first.loops second.loops) first.iterators second.iterators (first.number < second.number)
 
--- the numbers of loops from one on, and fewer than so many
-abbrev StartIn : ℕ → ℕ → List ℕ → Type 0
-StartIn first n [] = Unit {0}
-StartIn first n (l ∷ ls) = (first ≤ l) × (l < first + n)
-
-at_map : (l : ℕ) (rss : List (List ℕ)) (n : ℕ) (rs : List ℕ) → slice_get rss n ≡ Some rs → slice_get (map (λ q. l ∷ q) rss) n ≡ Some (l ∷ rs)
-at_map l [] n rs e = absurd (cc)
-at_map l (q ∷ qs) zero rs e = ap (λ z. Some (l ∷ z)) (same_some q rs e)
-  where
-    same_some : (a b : List ℕ) → Some a ≡ Some b → a ≡ b
-    same_some a b e = cc
-at_map l (q ∷ qs) (suc n) rs e = at_map l qs n rs e
-
 abbrev under_loop : (l : ℕ) (numbers : List (List ℕ)) (k : ℕ) (ts : List ℤ) (b : Instance) (x : ℤ) → Placed numbers k (ts ++ x ∷ []) b → Placed (map (λ ls. l ∷ ls) numbers) k ts b
 under_loop l numbers k ts b x d = record {
   number = d.number;
   is = d.is;
   loops = l ∷ d.loops;
-  at = at_map l numbers d.number d.loops d.at;
+  at = to_mapped (λ q. l ∷ q) numbers d.number d.loops d.at;
   iterators = x ∷ d.iterators;
   go_on = d.go_on ∙ append_assoc ts (x ∷ []) d.iterators;
   long = ap suc d.long;
 }
-
-eq_self : (l : ℕ) → nat_eq l l ≡ true
-eq_self l = grind (arith, nat_tests)
-
-shared_same : (l : ℕ) (xs ys : List ℕ) → shared (l ∷ xs) (l ∷ ys) ≡ suc (shared xs ys)
-shared_same l xs ys = ap (λ t. if t then suc (shared xs ys) else 0) (eq_self l)
-
--- loops that start in different places share nothing
-shared_none : (first n m : ℕ) (xs ys : List ℕ) → StartIn first n xs → StartIn (first + n) m ys → (shared xs ys ≡ 0) × (shared ys xs ≡ 0)
-shared_none first n m [] [] s t = (refl, refl)
-shared_none first n m [] (y ∷ ys) s t = (refl, refl)
-shared_none first n m (x ∷ xs) [] s t = (refl, refl)
-shared_none first n m (x ∷ xs) (y ∷ ys) s t = (ap (λ t. if t then suc (shared xs ys) else 0) (apart x y (omega arith)), ap (λ t. if t then suc (shared ys xs) else 0) (apart' x y (omega arith)))
-  where
-    apart : (x y : ℕ) → x < y → nat_eq x y ≡ false
-    apart x y h = grind (arith, nat_tests)
-
-    apart' : (x y : ℕ) → x < y → nat_eq y x ≡ false
-    apart' x y h = grind (arith, nat_tests)
-
-at_append : (xs ys : List (List ℕ)) (n : ℕ) (q : List ℕ) → slice_get (xs ++ ys) n ≡ Some q → (slice_get xs n ≡ Some q) ⊎ ((m : ℕ) × (n ≡ length xs + m) × (slice_get ys m ≡ Some q))
-at_append [] ys n q e = inr (n, omega arith, e)
-at_append (x ∷ xs) ys zero q e = inl e
-at_append (x ∷ xs) ys (suc n) q e = elim (at_append xs ys n q e) [ inl h ↦ inl h | inr r ↦ inr (r.0, omega (arith, r.1), r.2) ]
 
 abbrev placed_first : (xs ys : List (List ℕ)) (k : ℕ) (ts : List ℤ) (b : Instance) → Placed xs k ts b → Placed (xs ++ ys) k ts b
 placed_first xs ys k ts b d = record { number = d.number; is = d.is; loops = d.loops; at = slice_left xs ys d.number d.loops d.at; iterators = d.iterators; go_on = d.go_on; long = d.long }
@@ -140,38 +105,6 @@ abbrev placed_second : (xs ys : List (List ℕ)) (n k : ℕ) (ts : List ℤ) (b 
 placed_second xs ys n k ts b e d =
     let is : b.statement ≡ (k + n) + d.number = d.is in
     record { number = length xs + d.number; is = omega arith; loops = d.loops; at = slice_right xs ys d.number ∙ d.at; iterators = d.iterators; go_on = d.go_on; long = d.long }
-
-slice_within : (xs : List (List ℕ)) (n : ℕ) (q : List ℕ) → slice_get xs n ≡ Some q → n < length xs
-slice_within [] n q e = absurd (cc)
-slice_within (x ∷ xs) zero q e = omega arith
-slice_within (x ∷ xs) (suc n) q e = let h = slice_within xs n q e in omega arith
-
-length_map : {A B : Type 0} (f : A → B) (xs : List A) → length (map f xs) ≡ length xs
-length_map f [] = refl
-length_map f (x ∷ xs) = ap suc (length_map f xs)
-
-loop_starts : (first n : ℕ) (numbers : List (List ℕ)) (i : ℕ) (ls : List ℕ) → slice_get (map (λ q. first ∷ q) numbers) i ≡ Some ls → StartIn first (suc n) ls
-loop_starts first n [] i ls e = absurd (cc)
-loop_starts first n (q ∷ qs) zero ls e = subst (StartIn first (suc n)) (same_some (first ∷ q) ls e) (omega arith, omega arith)
-  where
-    same_some : (a b : List ℕ) → Some a ≡ Some b → a ≡ b
-    same_some a b e = cc
-loop_starts first n (q ∷ qs) (suc i) ls e = loop_starts first n qs i ls e
-
-no_loops : (first i : ℕ) (ls : List ℕ) → slice_get ([] ∷ []) i ≡ Some ls → StartIn first 0 ls
-no_loops first zero ls e = subst (StartIn first 0) (same_some [] ls e) tt
-  where
-    same_some : (a b : List ℕ) → Some a ≡ Some b → a ≡ b
-    same_some a b e = cc
-no_loops first (suc i) ls e = absurd (cc)
-
-wider : (first n k m : ℕ) (ls : List ℕ) → m ≡ n + k → StartIn first n ls → StartIn first m ls
-wider first n k m [] e s = tt
-wider first n k m (l ∷ ls) e s = (s.0, omega arith)
-
-later : (first n k m : ℕ) (ls : List ℕ) → m ≡ n + k → StartIn (first + n) k ls → StartIn first m ls
-later first n k m [] e s = tt
-later first n k m (l ∷ ls) e s = (omega arith, omega arith)
 
 module _ (p : List ℤ) where
   mutual
@@ -188,21 +121,6 @@ module _ (p : List ℤ) where
         ∙ ap (λ u. u + length (in_text_order (by_each numbered_step rest) (first + (by_stmt numbered_step x).loops))) (counts x first)
         ∙ ap (λ u. (by_stmt (walk_step p) x).assigns + u) (row_counts rest (first + (by_stmt numbered_step x).loops))
         ∙ sym (sum_by-cons (λ w. w.assigns) (by_stmt (walk_step p) x) (by_each (walk_step p) rest))
-
-  -- where the loops' numbers start
-  mutual
-    starts : (x : Stmt) (first i : ℕ) (ls : List ℕ) → slice_get ((by_stmt numbered_step x).numbers first) i ≡ Some ls → StartIn first (by_stmt numbered_step x).loops ls
-    starts (s.For' iter low rel high shape body) first i ls e = loop_starts first (all_loops (by_each numbered_step body)) (in_text_order (by_each numbered_step body) (suc first)) i ls e
-    starts (s.If' conds shape body) first i ls e = row_starts body first i ls e
-    starts (s.Assign op array subs value) first i ls e = no_loops first i ls e
-    starts (s.Block' locals shape body) first i ls e = row_starts body first i ls e
-
-    row_starts : {n : _} (body : Row_of-Stmt n) (first i : ℕ) (ls : List ℕ) → slice_get (in_text_order (by_each numbered_step body) first) i ≡ Some ls → StartIn first (all_loops (by_each numbered_step body)) ls
-    row_starts end_of-Stmt first i ls e = absurd (cc)
-    row_starts (more_of-Stmt x rest) first i ls e = elim (at_append ((by_stmt numbered_step x).numbers first) (in_text_order (by_each numbered_step rest) (first + (by_stmt numbered_step x).loops)) i ls e) [
-      | inl h ↦ wider first (by_stmt numbered_step x).loops _ _ ls (sum_by-cons (λ n. n.loops) (by_stmt numbered_step x) (by_each numbered_step rest)) (starts x first i ls h)
-      | inr r ↦ later first (by_stmt numbered_step x).loops _ _ ls (sum_by-cons (λ n. n.loops) (by_stmt numbered_step x) (by_each numbered_step rest)) (row_starts rest (first + (by_stmt numbered_step x).loops) r.0 ls r.2)
-    ]
 
 -- ---- Placements are unique
 
@@ -314,8 +232,8 @@ module _ (p : List ℤ) where
     over_seam : (a b : Instance) (d : Placed ((by_stmt numbered_step x).numbers first) k ts a) (e : Placed after (k + (by_stmt (walk_step p) x).assigns) ts b)
         → (shared d.loops e.loops ≡ 0) × (shared e.loops d.loops ≡ 0) × (d.number < length ((by_stmt numbered_step x).numbers first))
     over_seam a b d e =
-        let h = shared_none first (by_stmt numbered_step x).loops n d.loops e.loops (starts p x first d.number d.loops d.at) (begins e.number e.loops e.at) in
-        (h.0, h.1, slice_within ((by_stmt numbered_step x).numbers first) d.number d.loops d.at)
+        let h = shared_none first (by_stmt numbered_step x).loops n d.loops e.loops (starts x first d.number d.loops d.at) (begins e.number e.loops e.at) in
+        (h.0, h.1, slice_get_within ((by_stmt numbered_step x).numbers first) d.number d.loops d.at)
 
   mutual
     ordered : (x : Stmt) (first k : ℕ) (ts : List ℤ) (a b : Instance) (d : Placed ((by_stmt numbered_step x).numbers first) k ts a) (e : Placed ((by_stmt numbered_step x).numbers first) k ts b)
@@ -358,7 +276,7 @@ module _ (p : List ℤ) where
             | inl g ↦
                 let da = place x first k ts a g.0 in
                 let db = row_place rest first' k' ts b g.1 in
-                let o = over_seam x first k ts vs _ (row_starts p rest first') a b da db in
+                let o = over_seam x first k ts vs _ (row_starts rest first') a b da db in
                 moved (us ++ vs) k ts a b (placed_first us vs k ts a da) d (placed_second us vs (by_stmt (walk_step p) x).assigns k ts b (counts p x first) db) e
                 (tie_before da.loops db.loops da.iterators db.iterators da.number (length us + db.number) o.0 (omega (arith, o.2)))
             | inr g ↦
@@ -426,7 +344,7 @@ module _ (p : List ℤ) where
             | inl v ↦
                 let da = row_place rest first' k' ts a u in
                 let db = place x first k ts b v in
-                let o = over_seam x first k ts vs _ (row_starts p rest first') b a db da in
+                let o = over_seam x first k ts vs _ (row_starts rest first') b a db da in
                 let t = before_tied da.loops db.loops da.iterators db.iterators (length us + da.number) db.number o.1
                 (moved (us ++ vs) k ts a b d (placed_second us vs (by_stmt (walk_step p) x).assigns k ts a (counts p x first) da) e (placed_first us vs k ts b db) h) in
                 absurd (beyond (length us) da.number db.number t o.2)

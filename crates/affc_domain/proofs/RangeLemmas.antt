@@ -13,6 +13,7 @@ use Rattle.affc_ast.specs.declared.tree.Param.TheVariants.{Number, Array}
 use Rattle.affc_ast.specs.declared.tree.Rel.{Rel}
 use Rattle.affc_ast.specs.declared.tree.Rel.TheVariants.{Less, LessEqual, Greater, GreaterEqual, Equal}
 use Rattle.affc_ast.specs.Fits.{whole, whole_of, within_ranges, meets, holds, all_hold}
+use Rattle.affc_trace.specs.Target.{numbers_in}
 use Rattle.affc_trace.proofs.LastStores.{append_nil}
 use Rattle.affc_domain.specs.Affine.{form_of, is_affine}
 use Rattle.affc_domain.specs.Laws.{IteratorsKeepRanges}
@@ -31,13 +32,22 @@ box_length [] (x ∷ xs) b = absurd b
 box_length (r ∷ rs) [] b = absurd b
 box_length (r ∷ rs) (x ∷ xs) b = ap suc (box_length rs xs b.2)
 
+-- side by side
+pub box_append : (rs ss : List (ℤ × ℤ)) (xs ys : List ℤ) → InBox rs xs → InBox ss ys → InBox (rs ++ ss) (xs ++ ys)
+box_append [] ss [] ys b c = c
+box_append [] ss (x ∷ xs) ys b c = absurd b
+box_append (r ∷ rs) ss [] ys b c = absurd b
+box_append (r ∷ rs) ss (x ∷ xs) ys b c = (b.0, b.1, box_append rs ss xs ys b.2 c)
+
 pub box_push : (rs : List (ℤ × ℤ)) (xs : List ℤ) (r : ℤ × ℤ) (x : ℤ) → InBox rs xs → r.0 ≤ℤ x → x ≤ℤ r.1 → InBox (rs ++ r ∷ []) (xs ++ x ∷ [])
-box_push [] [] r x b l h = (l, h, tt)
-box_push [] (y ∷ xs) r x b l h = absurd b
-box_push (q ∷ rs) [] r x b l h = absurd b
-box_push (q ∷ rs) (y ∷ xs) r x b l h = (b.0, b.1, box_push rs xs r x b.2 l h)
+box_push rs xs r x b l h = box_append rs (r ∷ []) xs (x ∷ []) b (l, h, tt)
 
 -- ---- Values of the parameters
+
+pub numbers_are : (ps : List Param) → numbers_in ps ≡ length (number_ranges ps)
+numbers_are [] = refl
+numbers_are (Number name low high ∷ ps) = ap suc (numbers_are ps)
+numbers_are (Array decl ∷ ps) = numbers_are ps
 
 -- within the declared ranges they are in the box of these
 pub in_ranges : (ps : List Param) (p : List ℤ) → IsTrue (within_ranges ps p) → InBox (number_ranges ps) p

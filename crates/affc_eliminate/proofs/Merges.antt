@@ -88,17 +88,6 @@ pub record IsMerging (s : ℕ) (first : List (ℕ × ℕ)) (t : ℕ) (second lef
 no_times : AreTimes []
 no_times = record { rising = tt; positive = All-nil (λ p. 1 ≤ p.1); named = All-nil (λ p. p.0 < 1024) }
 
-pub merging_none : (s : ℕ) (first : List (ℕ × ℕ)) (t : ℕ) (second : List (ℕ × ℕ)) → AreTimes first → AreTimes second → IsMerging s first t second first second []
-merging_none s first t second h k = record {
-  weights = λ i. omega arith;
-  left_times = h;
-  right_times = k;
-  times = no_times;
-  small = All-nil (λ p. p.1 < 2 ^ 127);
-  left_above = All-nil (λ p. All (λ q. p.0 < q.0) first);
-  right_above = All-nil (λ p. All (λ q. p.0 < q.0) second);
-}
-
 -- what is left after a term
 tail_times : (p : ℕ × ℕ) (ps : List (ℕ × ℕ)) → AreTimes (p ∷ ps) → AreTimes ps
 tail_times p ps h = record { rising = h.rising.1; positive = All-tail (λ q. 1 ≤ q.1) p ps h.positive; named = All-tail (λ q. q.0 < 1024) p ps h.named }
@@ -215,15 +204,6 @@ merging_more s first t second left right sums term sum ps pt m h e lt =
 
 no_rest : (s t a whole : ℕ) → a + (s * 0 + t * 0) ≡ whole → a ≡ whole
 no_rest s t a whole h = omega arith
-
-pub merging_end : (s : ℕ) (first : List (ℕ × ℕ)) (t : ℕ) (second left right sums : List (ℕ × ℕ)) → IsMerging s first t second left right sums → left ≡ [] → right ≡ [] → AreMerged s first t second sums
-merging_end s first t second left right sums m l r = record {
-  times = m.times;
-  small = m.small;
-  weights = λ i. no_rest s t (weight_of sums i) (mixed_weight s first t second i)
-      (subst (λ z. weight_of sums i + (s * 0 + t * weight_of z i) ≡ mixed_weight s first t second i) r
-      (subst (λ z. weight_of sums i + (s * weight_of z i + t * weight_of right i) ≡ mixed_weight s first t second i) l (m.weights i)));
-}
 
 at_least : (a s t f f' fr g g' gr whole bound : ℕ) → f ≡ f' + fr → g ≡ g' + gr → a + (s * f + t * g) ≡ whole → bound ≤ s * f' + t * g' → bound ≤ whole
 at_least a s t f f' fr g g' gr whole bound e h m b =
@@ -399,20 +379,6 @@ first_below first i second j p q lt e lt' e' h r = record { first_is = taken_her
 pub both_here : (first : List (ℕ × ℕ)) (i : ℕ) (second : List (ℕ × ℕ)) (j : ℕ) (p q : ℕ × ℕ) → i < length first → p ≡ get_or first i p → j < length second → q ≡ get_or second j q
     → q.0 ≡ p.0 → IsTerm first i second j (record { number = p.0; first = p.1; second = q.1; left = i + 1; right = j + 1 })
 both_here first i second j p q lt e lt' e' h = record { first_is = taken_here first i p lt e; second_is = taken_same second j p.0 q lt' e' h; some = both_sides i j }
-
--- ... leaves fewer
-pub term_falls : (first : List (ℕ × ℕ)) (left : ℕ) (second : List (ℕ × ℕ)) (right : ℕ) (term : Term) → IsTerm first left second right term
-    → (length first - term.left) + (length second - term.right) < (length first - left) + (length second - right)
-term_falls first left second right term h = elim h.first_is [
-  | inl e ↦ elim h.second_is [
-    | inl f ↦ let a = e.0 in let b = e.1 in let c = f.0 in let d = f.1 in omega arith
-    | inr f ↦ let a = e.0 in let b = e.1 in let c = f.0 in omega arith
-  ]
-  | inr e ↦ elim h.second_is [
-    | inl f ↦ let a = e.0 in let c = f.0 in let d = f.1 in omega arith
-    | inr f ↦ let a = e.0 in let c = f.0 in let s = h.some in absurd (omega arith)
-  ]
-]
 
 -- ---- The greatest common divisor, one multiplier more
 

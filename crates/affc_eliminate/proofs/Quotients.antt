@@ -21,15 +21,6 @@ turned p q = omega (arith, ints)
 far_below : (p q : ℕ) → p + 2 ^ 128 ≤ q → (pos p +ℤ neg_ℤ (pos q)) <ℤ neg_ℤ (pos (2 ^ 127))
 far_below p q h = omega (arith, ints)
 
-far_above : (p q : ℕ) → q + 2 ^ 128 ≤ p → pos (2 ^ 127) ≤ℤ (pos p +ℤ neg_ℤ (pos q))
-far_above p q h = omega (arith, ints)
-
-pub passes_between : (p q : ℕ) → ((p < q) ⊎ (q + 2 ^ 128 ≤ p)) → ((q < p) ⊎ (p + 2 ^ 128 ≤ q)) → PassesSigned (pos p +ℤ neg_ℤ (pos q))
-passes_between p q h k = elim h [
-  | inl a ↦ elim k [ inl b ↦ absurd (omega arith) | inr b ↦ inl (far_below p q b) ]
-  | inr a ↦ inr (far_above p q a)
-]
-
 pub above_is : (p q v : ℕ) → v + q ≡ p → pos p +ℤ neg_ℤ (pos q) ≡ pos v
 above_is p q v e = omega (arith, ints)
 
@@ -37,13 +28,6 @@ pub below_is : (p q v : ℕ) → v + p ≡ q → pos p +ℤ neg_ℤ (pos q) ≡ 
 below_is p q v e = omega (arith, ints)
 
 -- ---- The difference of two products by their halves
-
-pub other_halves : (low high lower upper p q : ℕ) → low < 2 ^ 128 → lower < 2 ^ 128 → low + high * 2 ^ 128 ≡ p → lower + upper * 2 ^ 128 ≡ q
-    → (high < upper) ⊎ ((upper + 2 ≤ high) ⊎ ((high ≡ upper + 1) × (lower ≤ low))) → (p < q) ⊎ (q + 2 ^ 128 ≤ p)
-other_halves low high lower upper p q l u a b h = elim h [
-  | inl k ↦ inl (omega arith)
-  | inr k ↦ elim k [ inl m ↦ inr (omega arith) | inr m ↦ let e = m.0 in let f = m.1 in inr (omega arith) ]
-]
 
 -- ---- Exact quotients
 

@@ -1,5 +1,5 @@
 -- The trees of all loads, none of whose questions has a point.
-use Rattle.std.proofs.Common.{◌≡◌, ℕ, zero, suc, ℤ, ◌+◌, ◌-◌, ◌<◌, IsTrue, if◌then◌else◌, List, [], ◌∷◌, ◌++◌, length, map, Option, Some, refl, sym, ap, subst, ◌∙◌, arith}
+use Rattle.std.proofs.Common.{◌≡◌, ℕ, zero, suc, ℤ, ◌+◌, ◌-◌, ◌<◌, IsTrue, if◌then◌else◌, List, [], ◌∷◌, ◌++◌, length, Option, Some, refl, sym, ap, subst, ◌∙◌, arith}
 use Rattle.std.specs.Prelude.{slice_get}
 use Rattle.std.proofs.lemmas.Option.{same_Some, none-some}
 use Rattle.affc_system.specs.Boxes.{InBox}
@@ -12,16 +12,17 @@ use Rattle.affc_trace.specs.Dataflow.{IsSource}
 use Rattle.affc_trace.specs.Law.{IsIn}
 use Rattle.affc_trace.specs.Laws.{IsInContext}
 use Rattle.affc_trace.proofs.Members.{to_first, to_second, to_flat_map}
+use Rattle.affc_trace.proofs.Runs.{slice_left}
 use Rattle.affc_domain.specs.Ranges.{number_ranges}
-use Rattle.affc_domain.proofs.RangeLemmas.{in_ranges}
+use Rattle.affc_domain.proofs.RangeLemmas.{in_ranges, box_append}
+use Rattle.affc_domain.proofs.Lists.{stands_in, there_is, to_mapped}
 use Rattle.affc_nest.specs.declared.nest.Access.{Access}
 use Rattle.affc_nest.specs.declared.nest.Entry.{Entry}
 use Rattle.affc_nest.specs.declared.nest.Nest.{Nest}
 use Rattle.affc_nest.specs.Laws.{HasNest, NamesArrays, element_at, IsEntry}
 use Rattle.affc_nest.specs.Nests.{nest_of}
 use Rattle.affc_nest.proofs.EntryLemmas.{entries_stand, ranges_hold_iterators}
-use Rattle.affc_nest.proofs.QuestionLemmas.{there_is, stands_in}
-use Rattle.affc_sched.proofs.LegalLemmas.{Stood, box_append, events_are}
+use Rattle.affc_sched.proofs.LegalLemmas.{Stood, events_are}
 use Rattle.affc_quast.specs.Sources.{loads_in, tree_of}
 use Rattle.affc_quast.specs.Limits.{Shaped}
 use Rattle.affc_quast.specs.Trees.{Tree, named_at, quotients_at}
@@ -31,16 +32,6 @@ use Rattle.affc_flow.specs.Questions.{Question, questions_of_load, questions_of_
 use Rattle.affc_flow.proofs.PathLemmas.{parameters_are, reader_stands}
 use Rattle.affc_flow.proofs.LoadLemmas.{load_there}
 use Rattle.affc_flow.proofs.NamesLemmas.{HoldsLeaves, tree_names}
-
-pub mapped_at : {A B : Type 0} (f : A → B) (xs : List A) (k : ℕ) (a : A) → slice_get xs k ≡ Some a → slice_get (map f xs) k ≡ Some (f a)
-mapped_at f [] k a e = absurd (none-some a e)
-mapped_at f (x ∷ xs) zero a e = ap (λ y. Some (f y)) (same_Some x a e)
-mapped_at f (x ∷ xs) (suc k) a e = mapped_at f xs k a e
-
-pub front_at : {A : Type 0} (xs ys : List A) (k : ℕ) (a : A) → slice_get xs k ≡ Some a → slice_get (xs ++ ys) k ≡ Some a
-front_at [] ys k a e = absurd (none-some a e)
-front_at (x ∷ xs) ys zero a e = e
-front_at (x ∷ xs) ys (suc k) a e = front_at xs ys k a e
 
 -- the questions of one load are among those of all
 among_loads : (nest : Nest) (trees : List Tree) (e : Entry) (q : Question) (xs : List Access) (first k : ℕ) (x : Access) → slice_get xs k ≡ Some x → suc k < length xs
@@ -123,8 +114,8 @@ module _ (program : Program) (p : List ℤ) (trees : List Tree) (has : HasNest p
       let here : Instance = record { statement = e.part; iterators = b.iterators } in
       let element : element_at (p ++ b.iterators) a ≡ x =
       same_Some (element_at (p ++ b.iterators) a) x
-      (sym (mapped_at (element_at (p ++ b.iterators)) e.accesses k a a_at) ∙ ap (λ es. slice_get es k) (events_are program has p l e b.iterators st)
-      ∙ front_at (loads_of program p here) (store_of program p here ∷ []) k x (subst (λ i. slice_get (loads_of program p i) k ≡ Some x) is load)) in
+      (sym (to_mapped (element_at (p ++ b.iterators)) e.accesses k a a_at) ∙ ap (λ es. slice_get es k) (events_are program has p l e b.iterators st)
+      ∙ slice_left (loads_of program p here) (store_of program p here ∷ []) k x (subst (λ i. slice_get (loads_of program p i) k ≡ Some x) is load)) in
       subst (λ i. IsSource program p i x source) (sym is) (subst (λ x. IsSource program p here x source) element r.is)
 
   asked : (tree : Tree) → tree_of (nest_of program) trees s k ≡ Some tree → (q : Question) → IsIn q (questions_of_load (nest_of program) e a (Some tree)) → IsIn q (flow_questions (nest_of program) trees)

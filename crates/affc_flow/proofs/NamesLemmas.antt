@@ -24,7 +24,9 @@ use Rattle.affc_trace.proofs.Members.{to_first, to_second, to_map, to_flat_map, 
 use Rattle.affc_trace.proofs.Runs.{length_append}
 use Rattle.affc_trace.proofs.Sources.{source_in_its_own_words}
 use Rattle.affc_domain.specs.Ranges.{number_ranges}
-use Rattle.affc_domain.proofs.Lists.{length_map}
+use Rattle.affc_domain.proofs.Lists.{length_map, stands_in}
+use Rattle.affc_domain.proofs.ColumnLemmas.{first_columns, later_columns, append_columns, values_append, values_long}
+use Rattle.affc_domain.proofs.RangeLemmas.{box_append}
 use Rattle.affc_nest.specs.declared.nest.Access.{Access}
 use Rattle.affc_nest.specs.declared.nest.Entry.{Entry}
 use Rattle.affc_nest.specs.declared.nest.Nest.{Nest}
@@ -34,14 +36,13 @@ use Rattle.affc_nest.specs.Laws.{element_at}
 use Rattle.affc_nest.specs.Nests.{nest_of}
 use Rattle.affc_nest.proofs.DomainLemmas.{to_all, say_rows}
 use Rattle.affc_nest.proofs.EntryLemmas.{entries_stand, ranges_hold_iterators}
-use Rattle.affc_nest.proofs.QuestionLemmas.{stands_in}
 use Rattle.affc_order.specs.Laws.{IsPointOfOne}
 use Rattle.affc_order.specs.Posed.{Posed, IsPosed, form_at}
 use Rattle.affc_order.specs.Systems.{source_order}
-use Rattle.affc_order.proofs.ColumnLemmas.{values_append, values_long, forms_append, append_columns, at_value, at_values, at_width, from_width, from_long, segment_at, first_columns, later_columns}
+use Rattle.affc_order.proofs.ColumnLemmas.{at_value, at_values, at_width, from_width, from_long, segment_at}
 use Rattle.affc_order.proofs.LexLemmas.{both_met}
 use Rattle.affc_sched.specs.Questions.{equal_rows}
-use Rattle.affc_sched.proofs.LegalLemmas.{Stood, stood, box_append, entry_at, statement_at, rows_wide, subs_wide, runs, as_many_each}
+use Rattle.affc_sched.proofs.LegalLemmas.{Stood, stood, entry_at, statement_at, rows_wide, subs_wide, runs, as_many_each}
 use Rattle.affc_sched.proofs.PointLemmas.{values_equal}
 use Rattle.affc_quast.specs.Laws.{IsOver}
 use Rattle.affc_quast.specs.Leaves.{padded, negated, Leaf, leaves_of, path_ranges}
@@ -49,10 +50,10 @@ use Rattle.affc_quast.specs.Limits.{Shaped}
 use Rattle.affc_quast.specs.Sources.{loads_in}
 use Rattle.affc_quast.specs.Trees.{Tree, named_at, instance_at, quotients_at}
 use Rattle.affc_quast.proofs.RangeLemmas.{leaves_are_over, leaf_is_boxed}
-use Rattle.affc_quast.proofs.LeafLemmas.{says_negated, leaf_is_named, leaf_is_reached}
+use Rattle.affc_quast.proofs.LeafLemmas.{says_negated, leaf_is_named, leaf_is_reached, padded_values, short_values, padded_columns}
 use Rattle.affc_flow.specs.Laws.{Loads, IsSourceOf, NoneBegins, LeafNamesSource, TreeNamesSource}
 use Rattle.affc_flow.specs.Questions.{Question, Writer, is_temporary, writers, poses, path_rows, reader_posed, here, beside_columns, beside_rows, beside, writer_posed, before_load, earlier_questions, after_named, between_questions, of_named, outside_questions, apart_questions, not_earlier_questions, named_questions, questions_among, input_questions, questions_for, leaf_questions, tree_questions}
-use Rattle.affc_flow.proofs.PathLemmas.{padded_values, short_values, padded_wide, order_at, parameters_are, reader_stands, path_met, read_value, read_wide, reader_is_posed, point_is, beside_long, beside_met, writer_is_posed}
+use Rattle.affc_flow.proofs.PathLemmas.{order_at, parameters_are, reader_stands, path_met, read_value, read_wide, reader_is_posed, point_is, beside_long, beside_met, writer_is_posed}
 use Rattle.affc_flow.specs.Writers.{Writes}
 use Rattle.affc_flow.proofs.WriterLemmas.{stored_there, from_writers, to_writers}
 
@@ -207,7 +208,7 @@ module _ (Holds : List (ℤ × ℤ) → List ℤ → Type 0) (join : (rs ss : Li
 
     images_long : length images ≡ length p + length w.loops
     images_long =
-        forms_append (columns_from l.columns 0 (length (number_ranges program.params))) a.iterators
+        length_append (columns_from l.columns 0 (length (number_ranges program.params))) a.iterators
         ∙ ap (λ k. k + length a.iterators) (from_long l.columns 0 (length (number_ranges program.params)) ∙ sym len) ∙ ap (λ k. length p + k) many
 
     w_stands : Stood program p w vals
@@ -350,8 +351,8 @@ module _ (Holds : List (ℤ × ℤ) → List ℤ → Type 0) (join : (rs ss : Li
         let long : columns ≡ length (zs ++ v.iterators) = columns_are v o i in
         let posed : IsPosed (zs ++ v.iterators) named c = record {
           part = sym number;
-          iterators = padded_values columns a.iterators (zs ++ v.iterators) ∙ short_values l.columns a.iterators zs v.iterators forms_wide (at_most (sym wide));
-          columns = subst (λ k. HaveColumns k (map (padded columns) a.iterators)) long (padded_wide columns l.columns a.iterators forms_wide (first_of l.columns (length o.entry.loops)));
+          iterators = padded_values columns a.iterators (zs ++ v.iterators) ∙ short_values l.columns a.iterators zs v.iterators (at_most (sym wide)) forms_wide;
+          columns = subst (λ k. HaveColumns k (map (padded columns) a.iterators)) long (padded_columns l.columns columns a.iterators (first_of l.columns (length o.entry.loops)) forms_wide);
         } in
         let t = (order_at program p ((its ++ qs) ++ v.iterators) (zs ++ v.iterators) columns named (writer_posed n e x ranges l o.entry o.access)
         c (record { statement = o.entry.part; iterators = v.iterators }) (point_is program p its qs e x ranges l h over wide met v.iterators) long h.has c_runs (there v o i) posed

@@ -4,7 +4,7 @@ use Rattle.std.specs.Prelude.{slice_get, Some, ◌↔◌}
 use Rattle.std.specs.List.{All}
 use Rattle.std.proofs.lemmas.List.Elements.{All-head, All-tail, All-drop}
 use Rattle.std.proofs.lemmas.Option.{same_Some}
-use Rattle.affc_rows.specs.Forms.{Affine, value, values_of, HaveColumns}
+use Rattle.affc_rows.specs.Forms.{Affine, values_of, HaveColumns}
 use Rattle.affc_system.specs.Systems.{Meets, Met}
 use Rattle.affc_ast.specs.declared.tree.Instance.{Instance}
 use Rattle.affc_ast.specs.declared.tree.Program.{Program}
@@ -25,7 +25,7 @@ use Rattle.affc_nest.proofs.DomainLemmas.{to_all, from_all, met_append}
 use Rattle.affc_order.specs.Laws.{IsPointOfOne}
 use Rattle.affc_order.specs.Posed.{Posed, IsPosed}
 use Rattle.affc_order.specs.Systems.{source_order}
-use Rattle.affc_order.proofs.ColumnLemmas.{no_columns, more_columns, first_columns, later_columns, cons_is, from_width, segment_at}
+use Rattle.affc_order.proofs.ColumnLemmas.{from_width, segment_at}
 use Rattle.affc_order.proofs.LexLemmas.{both_met}
 use Rattle.affc_order.proofs.OrderLemmas.{source_order_is_the_trace}
 use Rattle.affc_sched.specs.Questions.{equal_rows, context_count}
@@ -33,41 +33,15 @@ use Rattle.affc_sched.proofs.LegalLemmas.{Stood, stood, rows_wide, subs_wide, ro
 use Rattle.affc_sched.proofs.PointLemmas.{spread_met, spread_values, all_spread, values_equal}
 use Rattle.affc_quast.specs.Laws.{IsOver}
 use Rattle.affc_quast.specs.Leaves.{padded, Leaf}
-use Rattle.affc_quast.proofs.LeafLemmas.{Narrow, narrow_append, met_longer, met_padded, padded_value, padded_width, short_value}
+use Rattle.affc_quast.proofs.LeafLemmas.{Narrow, narrow_append, met_longer, met_padded, narrow_columns, short_values, padded_columns, padded_values}
 use Rattle.affc_flow.specs.Laws.{Loads}
 use Rattle.affc_flow.specs.Questions.{path_rows, reader_posed, beside_columns, of_writer, writer_posed, beside_rows}
 
 -- ---- Widths
 
-columns_narrow : (k n : ℕ) (fs : List Affine) → k ≤ n → HaveColumns k fs → Narrow n fs
-columns_narrow k n [] h w = tt
-columns_narrow k n (f ∷ fs) h w = (below (first_columns k f fs w), columns_narrow k n fs h (later_columns k f fs w))
-  where
-    below : {a : ℕ} → a ≡ k → a ≤ n
-    below e = omega (arith, e, h)
-
 all_narrow : (n : ℕ) (rows : List Affine) → All (λ r. length r.coefs ≤ n) rows → Narrow n rows
 all_narrow n [] h = tt
 all_narrow n (r ∷ rows) h = (All-head (λ r. length r.coefs ≤ n) r rows h, all_narrow n rows (All-tail (λ r. length r.coefs ≤ n) r rows h))
-
-pub padded_values : (columns : ℕ) (fs : List Affine) (xs : List ℤ) → values_of (map (padded columns) fs) xs ≡ values_of fs xs
-padded_values columns [] xs = refl
-padded_values columns (f ∷ fs) xs = cons_is (value (padded columns f) xs) (value f xs) (values_of (map (padded columns) fs) xs) (values_of fs xs) (padded_value columns f xs) (padded_values columns fs xs)
-
-pub short_values : (k : ℕ) (fs : List Affine) (xs ys : List ℤ) → HaveColumns k fs → k ≤ length xs → values_of fs (xs ++ ys) ≡ values_of fs xs
-short_values k [] xs ys w h = refl
-short_values k (f ∷ fs) xs ys w h =
-    cons_is (value f (xs ++ ys)) (value f xs) (values_of fs (xs ++ ys)) (values_of fs xs) (short_value f xs ys (below (first_columns k f fs w))) (short_values k fs xs ys (later_columns k f fs w) h)
-  where
-    below : {a : ℕ} → a ≡ k → a ≤ length xs
-    below e = omega (arith, e, h)
-
-pub padded_wide : (columns k : ℕ) (fs : List Affine) → HaveColumns k fs → k ≤ columns → HaveColumns columns (map (padded columns) fs)
-padded_wide columns k [] w h = no_columns columns
-padded_wide columns k (f ∷ fs) w h = more_columns columns (padded columns f) (map (padded columns) fs) (padded_width columns f (below (first_columns k f fs w))) (padded_wide columns k fs (later_columns k f fs w) h)
-  where
-    below : {a : ℕ} → a ≡ k → a ≤ columns
-    below e = omega (arith, e, h)
 
 -- ---- Orders at a point that begins with the parameters
 
@@ -115,12 +89,12 @@ module _ (program : Program) (p its qs : List ℤ) (e : Entry) (x : Access) (ran
 
   rows_narrow : Narrow (length zs) (e.domain.rows ++ l.rows)
   rows_narrow =
-      narrow_append (length zs) e.domain.rows l.rows (columns_narrow (length p + length its) (length zs) e.domain.rows front_within (rows_wide program h.has p len e its s))
+      narrow_append (length zs) e.domain.rows l.rows (narrow_columns (length p + length its) (length zs) e.domain.rows front_within (rows_wide program h.has p len e its s))
       (subst (λ k. Narrow k l.rows) (sym wide) (all_narrow l.columns l.rows over.1.rows))
 
   domain_met : Met zs e.domain.rows
   domain_met =
-      met_longer e.domain.rows (p ++ its) qs (columns_narrow (length p + length its) (length (p ++ its)) e.domain.rows (all_of front_long) (rows_wide program h.has p len e its s))
+      met_longer e.domain.rows (p ++ its) qs (narrow_columns (length p + length its) (length (p ++ its)) e.domain.rows (all_of front_long) (rows_wide program h.has p len e its s))
       (from_all (p ++ its) e.domain.rows (rows_of program h.has p len e its s h.context h.runs))
     where
       all_of : {a b : ℕ} → a ≡ b → b ≤ a
@@ -136,13 +110,13 @@ module _ (program : Program) (p its qs : List ℤ) (e : Entry) (x : Access) (ran
   pub read_value : (columns : ℕ) (vs : List ℤ) → IsIn x e.accesses → values_of (map (padded columns) x.subs) (zs ++ vs) ≡ values_of x.subs (p ++ its)
   read_value columns vs i =
       padded_values columns x.subs (zs ++ vs) ∙ ap (values_of x.subs) (append_assoc (p ++ its) qs vs)
-      ∙ short_values (length p + length its) x.subs (p ++ its) (qs ++ vs) (subs_wide program h.has p len e its s x i) (all_of front_long)
+      ∙ short_values (length p + length its) x.subs (p ++ its) (qs ++ vs) (all_of front_long) (subs_wide program h.has p len e its s x i)
     where
       all_of : {a b : ℕ} → a ≡ b → b ≤ a
       all_of e = omega (arith, e)
 
   pub read_wide : (columns : ℕ) → length zs ≤ columns → HaveColumns columns (map (padded columns) x.subs)
-  read_wide columns k = padded_wide columns (length p + length its) x.subs (subs_wide program h.has p len e its s x h.made) (through front_within k)
+  read_wide columns k = padded_columns (length p + length its) columns x.subs (through front_within k) (subs_wide program h.has p len e its s x h.made)
     where
       through : {a b c : ℕ} → a ≤ b → b ≤ c → a ≤ c
       through h g = omega (arith, h, g)

@@ -1,5 +1,5 @@
 -- The statements that store an array.
-use Rattle.std.proofs.Common.{◌≡◌, ℕ, suc, ◌+◌, ◌-◌, ℤ, Bool, true, false, IsTrue, if◌then◌else◌, List, [], ◌∷◌, ◌++◌, length, map, Option, Some, None, refl, sym, ap, subst, ◌∙◌, inl, inr, arith}
+use Rattle.std.proofs.Common.{◌≡◌, ℕ, suc, ◌+◌, ◌-◌, ℤ, IsTrue, if◌then◌else◌, List, [], ◌∷◌, ◌++◌, length, map, Option, Some, None, refl, sym, ap, subst, ◌∙◌, inl, inr, arith}
 use Rattle.std.specs.Prelude.{slice_get, nat_eq}
 use Rattle.std.proofs.lemmas.Bool.{eq-eqb, eqb-true}
 use Rattle.affc_ast.specs.declared.tree.Instance.{Instance}
@@ -10,21 +10,17 @@ use Rattle.affc_trace.proofs.Members.{to_flat_map}
 use Rattle.affc_trace.proofs.Once.{in_flat_map}
 use Rattle.affc_trace.proofs.Runs.{length_append}
 use Rattle.affc_domain.specs.Ranges.{number_ranges}
+use Rattle.affc_domain.proofs.Lists.{stands_in, length_map, in_if, to_if}
 use Rattle.affc_nest.specs.declared.nest.Access.{Access}
 use Rattle.affc_nest.specs.declared.nest.Entry.{Entry}
 use Rattle.affc_nest.specs.declared.nest.Nest.{Nest}
 use Rattle.affc_nest.specs.Laws.{HasNest, element_at}
-use Rattle.affc_nest.proofs.QuestionLemmas.{stands_in}
 use Rattle.affc_sched.proofs.LegalLemmas.{Stood, events_are}
 use Rattle.affc_quast.specs.Sources.{loads_in}
 use Rattle.affc_flow.specs.Questions.{Writer, store_of_entry, writer_if, writers}
 use Rattle.affc_flow.specs.Writers.{Writes}
 
 -- ---- The last of a list
-
-long_map : {A B : Type 0} (f : A → B) (xs : List A) → length (map f xs) ≡ length xs
-long_map f [] = refl
-long_map f (x ∷ xs) = ap suc (long_map f xs)
 
 last_at : {A B : Type 0} (f : A → B) (xs : List A) (ys : List B) (z : B) → map f xs ≡ ys ++ z ∷ [] → (y : A) × (slice_get xs (length ys) ≡ Some y) × (f y ≡ z)
 last_at f [] [] z e = absurd (cc)
@@ -52,7 +48,7 @@ stored_there program has p l e its s =
     let ev = events_are program has p l e its s in
     let r = last_at (element_at (p ++ its)) e.accesses (loads_of program p b) (store_of program p b) ev in
     let count : length (loads_of program p b) ≡ loads_in e =
-    fewer (length e.accesses) (length (loads_of program p b)) (sym (long_map (element_at (p ++ its)) e.accesses) ∙ ap length ev ∙ length_append (loads_of program p b) (store_of program p b ∷ [])) in
+    fewer (length e.accesses) (length (loads_of program p b)) (sym (length_map (element_at (p ++ its)) e.accesses) ∙ ap length ev ∙ length_append (loads_of program p b) (store_of program p b ∷ [])) in
     let at : slice_get e.accesses (loads_in e) ≡ Some r.0 = subst (λ k. slice_get e.accesses k ≡ Some r.0) count r.1 in
     record { access = r.0; last = at; made = stands_in e.accesses (loads_in e) r.0 at; is = r.2 }
   where
@@ -60,14 +56,6 @@ stored_there program has p l e its s =
     fewer a b e = omega (arith, e)
 
 -- ---- Writers
-
-in_if : {A : Type 0} (t : Bool) (xs : List A) (a : A) → IsIn a (if t then xs else []) → IsTrue t × IsIn a xs
-in_if true xs a i = (refl, i)
-in_if false xs a i = absurd i
-
-to_if : {A : Type 0} (t : Bool) (xs : List A) (a : A) → IsTrue t → IsIn a xs → IsIn a (if t then xs else [])
-to_if true xs a t i = i
-to_if false xs a t i = absurd (cc)
 
 writer_is : (array : ℕ) (e : Entry) (o : Option Access) (w : Writer) → IsIn w (writer_if array e o) → (w.0 ≡ e) × (o ≡ Some w.1) × (w.1.array.0 ≡ array)
 writer_is array e None w i = absurd i

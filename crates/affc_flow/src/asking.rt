@@ -11,25 +11,8 @@ use affc_nest::lists::add_copies;
 use affc_nest::{Access, Entry};
 use affc_order::columns::columns_from;
 use affc_rows::Form;
-use affc_system::system::fits_row;
 use sqlite_items::Items;
 use std::alloc::Global;
-
-/// Whether each form is a row over so many columns, within the limits of systems.
-pub fn are_rows(columns: u32, forms: &[Form]) -> bool
-    ensures { IsTrue result → All (IsRow columns) forms.now }
-{
-    match forms {
-        [] => true,
-        [form, rest @ ..] => {
-            if form.coefs.len() == columns as usize && fits_row(form) {
-                are_rows(columns, rest)
-            } else {
-                false
-            }
-        }
-    }
-}
 
 /// So many columns from one on.
 pub fn column_forms(alloc: Global, columns: u32, first: u32, n: u32) -> Result<Vec<Form>, Unasked>

@@ -24,14 +24,12 @@ use Rattle.affc_trace.proofs.Members.{to_first, to_second}
 use Rattle.affc_trace.proofs.Once.{in_append}
 use Rattle.affc_domain.specs.Accesses.{Access, accesses_in, own_access, accesses_of}
 use Rattle.affc_domain.specs.Arrays.{declared_arrays, extents_at}
-use Rattle.affc_domain.proofs.Lists.{from_map, to_mapped, length_map}
-use Rattle.affc_domain.proofs.RangeLemmas.{in_ranges}
+use Rattle.affc_domain.proofs.Lists.{from_map, to_mapped, length_map, stands_in}
+use Rattle.affc_domain.proofs.RangeLemmas.{in_ranges, numbers_are}
 use Rattle.affc_safe.specs.Overflow.{AreReadable, ReadsValue, ReadsAssignment, NeverOverflows}
 use Rattle.affc_safe.specs.Safe.{LiesWithin, HasExtents, IsSafe}
-use Rattle.affc_safe.proofs.Accesses.{entry_in}
 use Rattle.affc_loops.proofs.Boxed.{box_length}
 use Rattle.affc_loops.proofs.MovedReads.{reads_not, reads_bin, reads_shift}
-use Rattle.affc_loops.proofs.Scheduled.{numbers_are}
 use Rattle.affc_domain.specs.Ranges.{number_ranges}
 use Rattle.affc_basis.specs.declared.fold.Fold.{Fold}
 use Rattle.affc_basis.specs.FoldLists.{IsFoldIn, AreFoldsIn}
@@ -99,7 +97,7 @@ least_at : (p : List ℤ) (temps : List Decl) → AreSized temps p → (k j : �
 least_at p [] sized k j z e = absurd (none-some z e)
 least_at p (d ∷ temps) sized zero j z e =
     let f = from_map (λ e. whole e p) d.extents j z e in
-    subst (λ y. pos 1 ≤ℤ y) (sym f.2) ((sized d (inl refl)).1 f.0 (entry_in d.extents j f.0 f.1))
+    subst (λ y. pos 1 ≤ℤ y) (sym f.2) ((sized d (inl refl)).1 f.0 (stands_in d.extents j f.0 f.1))
 least_at p (d ∷ temps) sized (suc k) j z e = least_at p temps (λ c i. sized c (inr i)) k j z e
 
 module _ (ds es : List Decl) (p : List ℤ) where

@@ -12,12 +12,13 @@ use Rattle.affc_trace.specs.Law.{IsIn}
 use Rattle.affc_trace.specs.Orders.{Earlier}
 use Rattle.affc_trace.proofs.Legality.{earlier_is_in}
 use Rattle.affc_trace.proofs.Members.{to_first, to_second}
+use Rattle.affc_trace.proofs.Once.{in_append}
+use Rattle.affc_domain.proofs.Lists.{stands_in}
 use Rattle.affc_nest.specs.declared.nest.Access.{Access}
 use Rattle.affc_nest.specs.declared.nest.Entry.{Entry}
 use Rattle.affc_nest.specs.declared.nest.Nest.{Nest}
 use Rattle.affc_nest.specs.Laws.{element_at}
 use Rattle.affc_nest.specs.Nests.{nest_of}
-use Rattle.affc_nest.proofs.QuestionLemmas.{stands_in}
 use Rattle.affc_order.specs.Systems.{source_systems}
 use Rattle.affc_sched.proofs.LegalLemmas.{Stood, stood, entry_at}
 use Rattle.affc_quast.specs.Sources.{loads_in}
@@ -30,7 +31,6 @@ use Rattle.affc_latest.proofs.LastLemmas.{is_stored}
 use Rattle.affc_latest.proofs.LaterLemmas.{same_latest, later_joined}
 use Rattle.affc_latest.proofs.LatestLemmas.{latest_is_source}
 use Rattle.affc_flow.proofs.PathLemmas.{parameters_are}
-use Rattle.affc_latest.proofs.Lists.{in_parts}
 use Rattle.affc_latest.proofs.StoreLemmas.{stores_point}
 use Rattle.affc_flow.proofs.WriterLemmas.{stored_there}
 
@@ -164,7 +164,7 @@ parts_joined nest e x p its entries first others here there latest both a b l pr
     to w (inr s) = (s.0, to_second first others s.0 s.1, s.2)
 
     from : (w : Instance) (u : Entry) → IsIn u (first ++ others) → StoresBefore program p (reader_of e its) (element_at (p ++ its) x) u w → Stored program p its e x first w ⊎ Stored program p its e x others w
-    from w u i s = elim (in_parts first others u i) [
+    from w u i s = elim (in_append first others u i) [
       | inl j ↦ inl (u, j, s)
       | inr j ↦ inr (u, j, s)
     ]

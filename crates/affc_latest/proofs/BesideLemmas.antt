@@ -13,14 +13,13 @@ use Rattle.affc_trace.specs.declared.schedule.Schedule.TheVariants as schedule
 use Rattle.affc_trace.specs.Law.{IsIn}
 use Rattle.affc_trace.proofs.Runs.{length_append}
 use Rattle.affc_domain.specs.Ranges.{is_near}
-use Rattle.affc_domain.proofs.Lists.{both_true, length_map}
+use Rattle.affc_domain.proofs.Lists.{both_true, length_map, stands_in}
 use Rattle.affc_nest.specs.Asked.{IsNest}
 use Rattle.affc_nest.specs.Domains.{with_rows}
 use Rattle.affc_nest.specs.declared.nest.Access.{Access}
 use Rattle.affc_nest.specs.declared.nest.Entry.{Entry}
 use Rattle.affc_nest.specs.declared.nest.Nest.{Nest}
 use Rattle.affc_nest.proofs.EntryLemmas.{ranges_hold_iterators}
-use Rattle.affc_nest.proofs.QuestionLemmas.{stands_in}
 use Rattle.affc_order.specs.Spread.{spread}
 use Rattle.affc_order.specs.Placed.{IsOrder}
 use Rattle.affc_order.specs.Systems.{over, pair_columns, rows_in, source_systems}
@@ -30,7 +29,7 @@ use Rattle.affc_sched.specs.Legality.{IsAsked}
 use Rattle.affc_sched.specs.Questions.{equal_rows}
 use Rattle.affc_sched.proofs.LegalLemmas.{entry_at}
 use Rattle.affc_sched.proofs.PairLemmas as pairs
-use Rattle.affc_sched.proofs.Lists.{all_from}
+use Rattle.affc_sched.proofs.Lists.{all_from, each_from}
 use Rattle.affc_sched.proofs.PairLemmas.{columns_of_pair}
 use Rattle.affc_quast.specs.Paths.{IsNear}
 use Rattle.affc_quast.specs.Sources.{loads_in}
@@ -39,7 +38,6 @@ use Rattle.affc_flow.specs.Writers.{Writes}
 use Rattle.affc_latest.specs.Stores.{store_rows, store_system, beside_box, IsLastIn, IsNamedNest, AreBeside, IsStoreBy, IsLatestBy, IsWriterAt}
 use Rattle.affc_latest.proofs.AmongLemmas.{one_by}
 use Rattle.affc_latest.proofs.LastLemmas.{within, latest_by, names_writer}
-use Rattle.affc_latest.proofs.LaterLemmas.{each_one}
 
 -- ---- Nests
 
@@ -174,7 +172,7 @@ pub orders_fit : (nest : Nest) (v e : Entry) (y x : Access) (pair : Rows) (held 
 orders_fit nest v e y x pair held made p h fit = subst (All (IsOrder pair.columns)) (sym h) (subst (λ (r : Rows). All (IsOrder r.columns) made) (sym p) fit)
 
 pub all_over : {A B : Type 0} (F : A → B) (xs : List A) (ys : List B) → map F xs ≡ ys → Each (λ x. IsIn (F x) ys) xs
-all_over {A = A} F xs ys e = subst (λ zs. Each (λ x. IsIn (F x) zs) xs) e (each_one (λ x. IsIn (F x) (map F xs)) xs (mapped_in xs))
+all_over {A = A} F xs ys e = subst (λ zs. Each (λ x. IsIn (F x) zs) xs) e (each_from (λ x. IsIn (F x) (map F xs)) xs (mapped_in xs))
   where
     mapped_in : (xs : List A) (x : A) → IsIn x xs → IsIn (F x) (map F xs)
     mapped_in [] x i = absurd i

@@ -15,14 +15,15 @@ use Rattle.affc_trace.specs.Law.{IsIn}
 use Rattle.affc_trace.specs.Orders.{Earlier}
 use Rattle.affc_domain.specs.Ranges.{is_near, number_ranges}
 use Rattle.affc_domain.proofs.Lists.{both_true}
+use Rattle.affc_domain.proofs.ColumnLemmas.{cons_is}
+use Rattle.affc_domain.proofs.RangeLemmas.{box_append}
 use Rattle.affc_nest.specs.declared.nest.Access.{Access}
 use Rattle.affc_nest.specs.declared.nest.Entry.{Entry}
 use Rattle.affc_nest.specs.Laws.{HasNest, element_at}
 use Rattle.affc_nest.specs.Nests.{nest_of}
 use Rattle.affc_nest.proofs.EntryLemmas.{ranges_hold_iterators}
 use Rattle.affc_order.specs.Systems.{source_systems}
-use Rattle.affc_order.proofs.ColumnLemmas.{cons_is}
-use Rattle.affc_sched.proofs.LegalLemmas.{entry_at, box_append}
+use Rattle.affc_sched.proofs.LegalLemmas.{entry_at}
 use Rattle.affc_latest.specs.Latest.{IsLatest}
 use Rattle.affc_flow.specs.Laws.{Loads}
 use Rattle.affc_flow.specs.Writers.{Writes}

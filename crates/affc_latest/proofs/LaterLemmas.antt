@@ -29,7 +29,6 @@ use Rattle.affc_order.specs.Systems.{loops_or_none, loops_of, over, pair_columns
 use Rattle.affc_order.proofs.CodeLemmas.{few_loops}
 use Rattle.affc_order.proofs.OrderLemmas.{systems_are_the_orders}
 use Rattle.affc_order.proofs.RowLemmas.{source_again}
-use Rattle.affc_sched.specs.Touched.{Each}
 use Rattle.affc_latest.specs.Latest.{IsLatest}
 use Rattle.affc_latest.specs.Stores.{IsNumbered, IsWriterAt, IsLaterOf}
 use Rattle.affc_latest.proofs.LatestLemmas.{later_of_two, either_order, only_second}
@@ -56,10 +55,6 @@ others_met columns orders rest order system point t e s none h = subst (λ os. I
 
 pub three_lists : (ps rs ss : List ℤ) → (ps ++ rs) ++ ss ≡ ps ++ (rs ++ ss)
 three_lists ps rs ss = append_assoc ps rs ss
-
-pub each_one : {A : Type 0} (P : A → Type 0) (xs : List A) → ((x : A) → IsIn x xs → P x) → Each P xs
-each_one P [] h = tt
-each_one P (x ∷ xs) h = (h x (inl refl), each_one P xs (λ y i. h y (inr i)))
 
 pub counted : (nest : Nest) (w : Instance) → IsNumbered nest w → w.statement < length nest.entries
 counted nest w h = slice_get_within nest.entries w.statement h.entry h.there

@@ -1,6 +1,5 @@
 -- Lists that are taken in two parts.
-use Rattle.std.proofs.Common.{◌≡◌, List, [], ◌∷◌, ◌++◌, subst, ◌⊎◌, inl, inr}
-use Rattle.affc_trace.specs.Law.{IsIn}
+use Rattle.std.proofs.Common.{◌≡◌, List, [], ◌∷◌, ◌++◌, subst}
 use Rattle.affc_sched.specs.Touched.{Each}
 
 pub each_first : {A : Type 0} (P : A → Type 0) (whole xs ys : List A) → whole ≡ xs ++ ys → Each P whole → Each P xs
@@ -16,11 +15,3 @@ each_second {A} P whole xs ys is h = back xs (subst (Each P) is h)
     back : (zs : List A) → Each P (zs ++ ys) → Each P ys
     back [] h = h
     back (z ∷ zs) h = back zs h.1
-
-pub in_parts : {A : Type 0} (xs ys : List A) (a : A) → IsIn a (xs ++ ys) → IsIn a xs ⊎ IsIn a ys
-in_parts [] ys a i = inr i
-in_parts (x ∷ xs) ys a (inl e) = inl (inl e)
-in_parts (x ∷ xs) ys a (inr i) = elim (in_parts xs ys a i) [
-  | inl j ↦ inl (inr j)
-  | inr j ↦ inr j
-]

@@ -1,8 +1,7 @@
 -- The ranges in which questions are asked.
-use Rattle.std.proofs.Common.{◌≡◌, ℕ, ◌+◌, ◌^◌, ◌≤◌, ℤ, IsTrue, List, [], ◌∷◌, ◌++◌, length, sym, ap, subst, ◌∙◌, arith}
-use Rattle.std.specs.Prelude.{unsigned_abs}
+use Rattle.std.proofs.Common.{◌≡◌, ℕ, ◌+◌, ℤ, IsTrue, List, [], ◌∷◌, ◌++◌, length, sym, ap, subst, ◌∙◌, arith}
 use Rattle.std.specs.List.{All}
-use Rattle.std.proofs.lemmas.List.Elements.{All-nil, All-cons, All-append}
+use Rattle.std.proofs.lemmas.List.Elements.{All-append}
 use Rattle.affc_system.specs.Pairs.{WithinReach}
 use Rattle.affc_trace.specs.Law.{IsIn}
 use Rattle.affc_trace.proofs.Runs.{length_append}
@@ -10,9 +9,8 @@ use Rattle.affc_nest.specs.Asked.{IsNest}
 use Rattle.affc_nest.specs.declared.nest.Entry.{Entry}
 use Rattle.affc_nest.specs.declared.nest.Nest.{Nest}
 use Rattle.affc_nest.specs.Parts.{coordinates}
-use Rattle.affc_nest.specs.Sides.{NearRanges}
 use Rattle.affc_nest.proofs.EntryLemmas.{ranges_hold_iterators}
-use Rattle.affc_nest.proofs.IntervalLemmas.{close_range}
+use Rattle.affc_nest.proofs.IntervalLemmas.{close_range, reach, near_reach}
 use Rattle.affc_nest.proofs.QuestionProofs.{nest_near}
 use Rattle.affc_order.specs.Systems.{pair_columns}
 use Rattle.affc_legal.specs.Answered.{IsFoundAs, AreRanges}
@@ -21,16 +19,6 @@ use Rattle.affc_sched.proofs.Lists.{all_from}
 use Rattle.affc_sched.proofs.PairLemmas.{stands_in, columns_of_pair}
 
 -- ---- Ranges
-
-reach : (r : ℤ × ℤ) → (unsigned_abs r.0 ≤ 2 ^ 32) × (unsigned_abs r.1 ≤ 2 ^ 32) → WithinReach r
-reach r h = record { low = more (unsigned_abs r.0) h.0; high = more (unsigned_abs r.1) h.1 }
-  where
-    more : (n : ℕ) → n ≤ 2 ^ 32 → n ≤ 2 ^ 60
-    more n h = omega (arith, h)
-
-near_reach : (rs : List (ℤ × ℤ)) → NearRanges rs → All WithinReach rs
-near_reach [] h = All-nil WithinReach
-near_reach (r ∷ rs) h = All-cons WithinReach r rs (reach r (h.0, h.1)) (near_reach rs h.2)
 
 record HasRanges (e : Entry) : Type 0 where
   each : length e.ranges ≡ coordinates e

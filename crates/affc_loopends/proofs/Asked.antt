@@ -8,7 +8,6 @@ use Rattle.std.proofs.lemmas.List.{length-map}
 use Rattle.std.proofs.lemmas.List.Elements.{All-nil, All-cons, All-append, All-weaker, All-head, All-tail, All-contains_itself}
 use Rattle.affc_rows.specs.Forms.{Affine, dot, value}
 use Rattle.affc_rows.specs.Vocabulary.{opposite, HasOpposite}
-use Rattle.affc_rows.proofs.IntLemmas.{neg-mul}
 use Rattle.affc_rows.proofs.VocabularyLemmas.{within_opposite}
 use Rattle.affc_system.specs.Systems.{Rows, Meets, IsRow}
 use Rattle.affc_farkas.specs.Eliminations.{IsElimination}
@@ -16,7 +15,8 @@ use Rattle.affc_farkas.specs.Rational.{RationalPoint, scaled_value}
 use Rattle.affc_farkas.specs.declared.pair.Pair.{Pair}
 use Rattle.affc_eliminate.specs.project.Projections.{AreProjected, IsProjection, IsTooWide}
 use Rattle.affc_eliminate.specs.declared.project.projection.Projected.{Projected}
-use Rattle.affc_loops.proofs.FormReads.{neg_size}
+use Rattle.affc_domain.proofs.Lists.{neg_size}
+use Rattle.affc_loops.proofs.RowEnds.{dot_opposite}
 use Rattle.affc_loopends.specs.declared.bounds.Answer.TheVariants.{Implied}
 use Rattle.affc_loopends.specs.Steps.{IsAnswer}
 use Rattle.affc_loopends.specs.Sizes.{IsPrintable}
@@ -26,16 +26,8 @@ use Rattle.affc_loopends.proofs.Instances.{whole_value}
 
 -- ---- Negations
 
-negated_dot : (cs xs : List ℤ) → dot (map neg_ℤ cs) xs ≡ neg_ℤ (dot cs xs)
-negated_dot [] xs = refl
-negated_dot (c ∷ cs) [] = refl
-negated_dot (c ∷ cs) (x ∷ xs) = step _ _ _ _ (neg-mul c x) (negated_dot cs xs)
-  where
-    step : (u v p q : ℤ) → u ≡ neg_ℤ p → v ≡ neg_ℤ q → u +ℤ v ≡ neg_ℤ (p +ℤ q)
-    step u v p q e f = omega (arith, ints)
-
 below_value : (row : Affine) (x : List ℤ) → value (below_zero row) x ≡ (negsuc 0 -ℤ value row x)
-below_value row x = step (dot (map neg_ℤ row.coefs) x) (dot row.coefs x) row.constant (negated_dot row.coefs x)
+below_value row x = step (dot (map neg_ℤ row.coefs) x) (dot row.coefs x) row.constant (dot_opposite row.coefs x)
   where
     step : (u v k : ℤ) → u ≡ neg_ℤ v → u +ℤ (negsuc 0 -ℤ k) ≡ negsuc 0 -ℤ (v +ℤ k)
     step u v k e = omega (arith, ints)
@@ -80,7 +72,7 @@ implied columns others row made projected h none whole l met = elim (either (val
 
 -- ---- Sizes
 
-negated_fits : (cs : List ℤ) → All (λ c. unsigned_abs c ≤ 2 ^ 40) cs → All (λ c. unsigned_abs c ≤ 2 ^ 40) (map neg_ℤ cs)
+pub negated_fits : (cs : List ℤ) → All (λ c. unsigned_abs c ≤ 2 ^ 40) cs → All (λ c. unsigned_abs c ≤ 2 ^ 40) (map neg_ℤ cs)
 negated_fits [] h = All-nil (λ c. unsigned_abs c ≤ 2 ^ 40)
 negated_fits (c ∷ cs) h =
     All-cons (λ z. unsigned_abs z ≤ 2 ^ 40) (neg_ℤ c) (map neg_ℤ cs) (subst (λ n. n ≤ 2 ^ 40) (sym (neg_size c)) (All-head (λ z. unsigned_abs z ≤ 2 ^ 40) c cs h)) (negated_fits cs (All-tail (λ z. unsigned_abs z ≤ 2 ^ 40) c cs h))

@@ -7,22 +7,23 @@ use Rattle.std.proofs.lemmas.List.Elements.{All-head, All-tail, All-append}
 use Rattle.affc_rows.specs.Forms.{Affine, HaveColumns}
 use Rattle.affc_rows.specs.Vocabulary.{form_at}
 use Rattle.affc_rows.proofs.ValueLemmas.{length-composed}
+use Rattle.affc_rows.proofs.VocabularyLemmas.{unit_width}
 use Rattle.affc_farkas.specs.Rational.{scaled_value}
 use Rattle.affc_eliminate.proofs.project.Points.{itself}
 use Rattle.affc_ast.specs.declared.tree.Rel.TheVariants.{Equal}
 use Rattle.affc_trace.specs.Inverses.{column, columns_from}
 use Rattle.affc_domain.specs.Rounds.{loops_in}
-use Rattle.affc_domain.proofs.FormLemmas.{unit_width}
+use Rattle.affc_domain.proofs.ColumnLemmas.{cons_is}
+use Rattle.affc_domain.proofs.Lists.{length_push, at_seam}
 use Rattle.affc_nest.specs.Domains.{column_form, compare_rows, domain_rows}
-use Rattle.affc_nest.proofs.DomainLemmas.{at_seam, length_push}
+use Rattle.affc_nest.proofs.WidthLemmas.{rows_wide}
 use Rattle.affc_order.proofs.CodeLemmas.{columns_are}
-use Rattle.affc_order.proofs.ColumnLemmas.{cons_is, from_width, from_long}
+use Rattle.affc_order.proofs.ColumnLemmas.{from_width, from_long}
 use Rattle.affc_loopends.specs.TimeSets.{Timed, IsShaped, IsTimePoint, parameters_at, components_at, iterators_at}
 use Rattle.affc_loopends.specs.TimeRows.{images, component_rows, system_of}
 use Rattle.affc_loopends.proofs.Both.{both, at_equal}
 use Rattle.affc_loopends.proofs.Scaled.{Held, held_all, held_append, compare_held, column_scaled, images_scaled}
 use Rattle.affc_loopends.proofs.Turns.{domain_held}
-use Rattle.affc_loopends.proofs.Widths.{domain_wide}
 
 -- ---- Images
 
@@ -111,7 +112,7 @@ module _ (s : Timed) (x : List ℤ) (d : ℤ) (shaped : IsShaped s) (width : len
       let gw = images_wide m (length s.times) s.inverse shaped.inverse in
       let all = held_all x d (system_of s).rows in
       let split = held_append x d (map (form_at c gs) rows) (component_rows c m gs s.times) in
-      let domain = rows_held c gs x d rows (subst (λ k. HaveColumns k rows) (sym gl) (domain_wide s.params s.context s.ranges s.around)) gw width in
+      let domain = rows_held c gs x d rows (subst (λ k. HaveColumns k rows) (sym gl) (rows_wide s.params s.context s.ranges s.around)) gw width in
       let turn = domain_held d s.params s.context s.ranges s.around p its parameters_long iterators_long shaped.ranges in
       let times = components_held c gs x d s.times p (components_at s x) m (subst (λ k. HaveColumns k s.times) (sym gl) shaped.times) gw width (sym (take-append-drop m x)) parameters_long components_long in (
         (λ h.

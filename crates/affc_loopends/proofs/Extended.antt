@@ -1,16 +1,18 @@
 -- Whole numbers between the ends extend to time points, at which the ends hold.
 use Rattle.std.proofs.Common.{◌≡◌, ℕ, suc, ◌+◌, List, [], ◌∷◌, ◌++◌, length, map, take, ℤ, pos, ◌≤ℤ◌, refl, sym, ap, subst, ◌∙◌, append_assoc, append-nil, arith}
 use Rattle.std.proofs.lemmas.List.{take-append-le, take_all}
-use Rattle.std.proofs.lemmas.List.Elements.{All-nil, All-cons, All-append, All-weaker}
+use Rattle.std.proofs.lemmas.List.Elements.{All-weaker}
 use Rattle.affc_rows.specs.Forms.{Affine, HaveColumns}
 use Rattle.affc_rows.specs.Vocabulary.{form_at}
 use Rattle.affc_rows.proofs.ValueLemmas.{length-composed}
+use Rattle.affc_rows.proofs.VocabularyLemmas.{unit_width}
 use Rattle.affc_farkas.specs.Rational.{scaled_value}
 use Rattle.affc_eliminate.specs.project.Projections.{ExtendsWhole}
 use Rattle.affc_system.specs.Systems.{Rows, Meets}
-use Rattle.affc_domain.proofs.FormLemmas.{unit_width}
+use Rattle.affc_domain.proofs.Lists.{length_push}
+use Rattle.affc_domain.proofs.ColumnLemmas.{no_columns, more_columns, append_columns}
 use Rattle.affc_nest.specs.Domains.{gap_row, column_form, domain_rows}
-use Rattle.affc_nest.proofs.DomainLemmas.{length_push}
+use Rattle.affc_nest.proofs.WidthLemmas.{gap_wide}
 use Rattle.affc_order.proofs.ColumnLemmas.{at_width}
 use Rattle.affc_loopends.specs.TimeSets.{Timed, IsShaped, IsTimePoint}
 use Rattle.affc_loopends.specs.TimeRows.{images, component_rows, system_of}
@@ -19,7 +21,6 @@ use Rattle.affc_loopends.specs.Laws.{RowsAreExact, EndsHold, TurnsExtend, WholeP
 use Rattle.affc_loopends.proofs.Instances.{whole_value}
 use Rattle.affc_loopends.proofs.Exact.{exact}
 use Rattle.affc_loopends.proofs.Projected.{row_holds}
-use Rattle.affc_loopends.proofs.Widths.{Wide, gap_wide}
 
 pub rows_are_exact : RowsAreExact
 rows_are_exact s x d shaped width one = exact s x d shaped width one
@@ -27,21 +28,21 @@ rows_are_exact s x d shaped width one = exact s x d shaped width one
 -- ---- Widths
 
 components_wide : (c j : ℕ) (gs fs : List Affine) → HaveColumns c (component_rows c j gs fs)
-components_wide c j gs [] = All-nil (Wide c)
+components_wide c j gs [] = no_columns c
 components_wide c j gs (f ∷ fs) =
     let a = column_form c j in
     let b = form_at c gs f in
     let u = unit_width c j in
     let v = length-composed f.coefs gs 0 c in
-    All-cons (Wide c) (gap_row b a 0) (gap_row a b 0 ∷ component_rows c (suc j) gs fs) (gap_wide c b a 0 v u)
-    (All-cons (Wide c) (gap_row a b 0) (component_rows c (suc j) gs fs) (gap_wide c a b 0 u v) (components_wide c (suc j) gs fs))
+    more_columns c (gap_row b a 0) (gap_row a b 0 ∷ component_rows c (suc j) gs fs) (gap_wide c b a 0 v u)
+    (more_columns c (gap_row a b 0) (component_rows c (suc j) gs fs) (gap_wide c a b 0 u v) (components_wide c (suc j) gs fs))
 
 pub system_wide : (s : Timed) → HaveColumns (system_of s).columns (system_of s).rows
 system_wide s =
     let m = length s.params in
     let c = m + length s.times in
     let gs = images m (length s.times) s.inverse in
-    All-append (Wide c) (map (form_at c gs) (domain_rows s.params s.context s.ranges s.around)) (component_rows c m gs s.times)
+    append_columns c (map (form_at c gs) (domain_rows s.params s.context s.ranges s.around)) (component_rows c m gs s.times)
     (at_width c gs (domain_rows s.params s.context s.ranges s.around)) (components_wide c m gs s.times)
 
 -- ---- Ends

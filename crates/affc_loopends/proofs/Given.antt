@@ -7,25 +7,19 @@ use Rattle.affc_rows.specs.Forms.{Affine, HaveColumns, columns_of}
 use Rattle.affc_rows.specs.Vocabulary.{form_at}
 use Rattle.affc_rows.proofs.SizeLemmas.{column_within, all_raised}
 use Rattle.affc_system.specs.Systems.{Rows, IsRow}
-use Rattle.affc_ast.specs.declared.tree.Program.{Program}
 use Rattle.affc_trace.specs.declared.schedule.TimeMap.{TimeMap}
 use Rattle.affc_trace.specs.Law.{IsIn}
 use Rattle.affc_domain.specs.Ranges.{number_ranges}
 use Rattle.affc_domain.specs.Rounds.{loops_in}
-use Rattle.affc_domain.proofs.PlainLemmas.{assignments_are_plain}
 use Rattle.affc_system.proofs.SystemLemmas.{rows_of}
 use Rattle.affc_trace.specs.Inverses.{column, columns_from}
 use Rattle.affc_nest.specs.Asked.{IsNest}
 use Rattle.affc_nest.specs.declared.nest.Entry.{Entry}
 use Rattle.affc_nest.specs.declared.nest.Nest.{Nest}
 use Rattle.affc_nest.specs.Domains.{column_form, gap_row}
-use Rattle.affc_nest.specs.Entries.{IsPlainPlace}
-use Rattle.affc_nest.specs.Nests.{nest_of}
-use Rattle.affc_nest.specs.Sites.{Place}
-use Rattle.affc_nest.proofs.EntryLemmas.{SiteOf, site_of, loops_are, ranges_there, domain_is}
-use Rattle.affc_nest.proofs.PlaceProofs.{near_numbers, near_within, plain_place}
-use Rattle.affc_nest.proofs.QuestionLemmas.{place_of}
-use Rattle.affc_nest.proofs.QuestionProofs.{nest_few, few_numbered, domain_small}
+use Rattle.affc_nest.proofs.EntryLemmas.{loops_are, ranges_there, domain_is}
+use Rattle.affc_nest.proofs.PlaceProofs.{near_numbers, near_within}
+use Rattle.affc_nest.proofs.QuestionProofs.{nest_few, few_numbered, domain_small, entry_in}
 use Rattle.affc_order.specs.Placed.{AreImages}
 use Rattle.affc_order.proofs.CodeLemmas.{columns_are}
 use Rattle.affc_order.proofs.PlacedLemmas.{slight_forms}
@@ -35,22 +29,6 @@ use Rattle.affc_loopends.specs.TimeRows.{component_rows}
 use Rattle.affc_loopends.proofs.Composed.{is_composed, composed_row, gap_is_row}
 use Rattle.affc_loopends.proofs.Exact.{images_long}
 use Rattle.affc_loopends.proofs.Near.{domain_near}
-
-record OfProgram (program : Program) (e : Entry) : Type 0 where
-  statement : ℕ
-  site : SiteOf program statement e
-  plain : IsPlainPlace (length (number_ranges program.params)) (record { around = site.its_rounds; loops = site.loops; assignment = site.assignment })
-
-entry_in : (nest : Nest) (n : IsNest nest) (e : Entry) → IsIn e nest.entries → OfProgram n.program e
-entry_in nest n e i =
-    let k = place_of (nest_of n.program).entries e (subst (λ (y : Nest). IsIn e y.entries) n.is i) in
-    let s = site_of n.program k.0 e k.1 in
-    let p : Place = record { around = s.its_rounds; loops = s.loops; assignment = s.assignment } in
-    record {
-      statement = k.0;
-      site = s;
-      plain = plain_place (length (number_ranges n.program.params)) p (assignments_are_plain n.program n.has.plain k.0 s.its_rounds s.assignment s.rounds_at s.assignment_at);
-    }
 
 params_are : (nest : Nest) (n : IsNest nest) → nest.params ≡ number_ranges n.program.params
 params_are nest n = ap (λ (x : Nest). x.params) n.is

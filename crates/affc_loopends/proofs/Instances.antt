@@ -17,13 +17,12 @@ use Rattle.affc_trace.specs.Target.{time_of, time_by, numbers_in, IsMapOf, IsSch
 use Rattle.affc_trace.proofs.Ordered.{from_time}
 use Rattle.affc_domain.specs.Ranges.{Within, number_ranges, ranges_of}
 use Rattle.affc_domain.specs.Rounds.{Round, rounds, loops_in}
-use Rattle.affc_domain.proofs.RangeLemmas.{box_length, in_ranges}
+use Rattle.affc_domain.proofs.RangeLemmas.{box_length, in_ranges, numbers_are}
+use Rattle.affc_domain.proofs.ColumnLemmas.{values_long}
 use Rattle.affc_nest.specs.Domains.{domain_rows}
 use Rattle.affc_nest.specs.Laws.{HasNest}
 use Rattle.affc_nest.proofs.DomainLemmas.{Met}
 use Rattle.affc_nest.proofs.PointLemmas.{instance_met, ranges_long}
-use Rattle.affc_order.proofs.ColumnLemmas.{values_long}
-use Rattle.affc_order.proofs.TimeLemmas.{numbers_are}
 use Rattle.affc_loopends.specs.TimeSets.{HoldAll, LieWithin, Turn, IsShaped, IsTimePoint, parameters_at, components_at, iterators_at, timed_in}
 use Rattle.affc_loopends.proofs.Scaled.{Held}
 use Rattle.affc_loopends.proofs.Turns.{domain_held}

@@ -1,7 +1,6 @@
 pub mod Both
 pub mod Scaled
 pub mod Turns
-pub mod Widths
 pub mod Exact
 pub mod Instances
 pub mod Projected

@@ -1,6 +1,7 @@
 -- The rows of a domain hold at a rational point exactly where its iterators turn.
 use Rattle.std.proofs.Common.{◌≡◌, ℕ, suc, ◌+◌, List, [], ◌∷◌, ◌++◌, length, get_or, ℤ, pos, ◌*ℤ◌, ◌≤ℤ◌, refl, sym, ap, ◌∙◌, arith, length-append, append_assoc}
 use Rattle.std.specs.Prelude.{◌↔◌}
+use Rattle.affc_rows.proofs.VocabularyLemmas.{unit_width}
 use Rattle.affc_farkas.specs.Rational.{scaled_value}
 use Rattle.affc_eliminate.proofs.project.Points.{both_ways, itself}
 use Rattle.affc_ast.specs.declared.tree.Compare.{Compare}
@@ -8,9 +9,9 @@ use Rattle.affc_ast.specs.declared.tree.Ix.{Ix}
 use Rattle.affc_ast.specs.declared.tree.Rel.{Rel}
 use Rattle.affc_domain.specs.Affine.{form_of}
 use Rattle.affc_domain.specs.Rounds.{Round, Loop, Test, loops_in}
-use Rattle.affc_domain.proofs.FormLemmas.{form_width, unit_width, number_width}
+use Rattle.affc_domain.proofs.FormLemmas.{form_width, number_width}
+use Rattle.affc_domain.proofs.Lists.{length_push, at_seam}
 use Rattle.affc_nest.specs.Domains.{compare_rows, test_rows, column_form, number_form, range_rows, box_rows, bounds_of, loop_rows, condition_rows, domain_rows}
-use Rattle.affc_nest.proofs.DomainLemmas.{at_seam, length_push}
 use Rattle.affc_loopends.specs.TimeSets.{scaled_at, AreRelated, HoldAll, LieWithin, Turn}
 use Rattle.affc_loopends.proofs.Both.{both}
 use Rattle.affc_loopends.proofs.Scaled.{Held, held_append, at_most_held, compare_held, column_scaled, number_scaled, form_scaled}

@@ -9,11 +9,11 @@ use Rattle.affc_rows.specs.Forms.{Affine}
 use Rattle.affc_ast.specs.declared.tree.Ix.{Ix}
 use Rattle.affc_ast.specs.declared.tree.Ix.TheVariants.{Min, Max, Floord, Ceild}
 use Rattle.affc_trace.specs.Law.{IsIn}
+use Rattle.affc_domain.proofs.Lists.{neg_size}
 use Rattle.affc_loops.specs.Ends.{rest_of, opposite, last_of, rounded_up, rounded_down, least_by, greatest_by, joined, joined_with, lower_end, upper_end, Sides, ends_from, both_ends, each_ends, all_ends, BoundsBelow, BoundsAbove}
 use Rattle.affc_loops.specs.Loops.{Scheduled, times_of}
 use Rattle.affc_loops.specs.Trees.{number, form_tree}
 use Rattle.affc_loops.proofs.EndLists.{both_long, from_long}
-use Rattle.affc_loops.proofs.FormReads.{neg_size}
 use Rattle.affc_loops.proofs.Joined.{joined_all}
 use Rattle.affc_loops.proofs.Sizes.{Within}
 use Rattle.affc_loopprint.specs.Rows.{IsPrintable, ArePrintableFrom, ArePrintableOfEach}

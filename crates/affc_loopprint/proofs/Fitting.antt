@@ -18,6 +18,7 @@ use Rattle.affc_trace.proofs.Runs.{length_append}
 use Rattle.affc_domain.specs.Ranges.{number_ranges}
 use Rattle.affc_domain.specs.Rounds.{rounds, loops_in}
 use Rattle.affc_domain.proofs.PlainLemmas.{rounds_are_plain, few_loops}
+use Rattle.affc_domain.proofs.RangeLemmas.{numbers_are}
 use Rattle.affc_loops.specs.Between.{body_between}
 use Rattle.affc_loops.specs.Laws.{HasLoops, HaveSameLoops}
 use Rattle.affc_loops.specs.Limits.{IsSlight}
@@ -26,7 +27,7 @@ use Rattle.affc_loops.specs.Spans.{span}
 use Rattle.affc_loops.proofs.Boxed.{box_length}
 use Rattle.affc_loops.proofs.Boxes.{sits, near_box, params_ordered}
 use Rattle.affc_loops.proofs.Guards.{names_count}
-use Rattle.affc_loops.proofs.Scheduled.{is_scheduled_at, shape_of, numbers_are}
+use Rattle.affc_loops.proofs.Scheduled.{is_scheduled_at, shape_of}
 use Rattle.affc_loops.proofs.SameLoops.{boxes_same, numbers_same}
 use Rattle.affc_loops.proofs.Sizes.{Within, map_within, near_within, params_within, time_most, box_within, slight_below, value_within}
 use Rattle.affc_loops.proofs.TimeRanges.{Spans, here_long, ordered_append}

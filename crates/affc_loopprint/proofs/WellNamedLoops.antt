@@ -12,12 +12,12 @@ use Rattle.affc_domain.specs.Ranges.{number_ranges}
 use Rattle.affc_domain.specs.Rounds.{Round, rounds}
 use Rattle.affc_domain.proofs.PlainLemmas.{rounds_of_each}
 use Rattle.affc_grammar.specs.Reads.{WellNamed}
+use Rattle.affc_domain.proofs.RangeLemmas.{numbers_are}
 use Rattle.affc_loops.specs.Between.{program_between}
 use Rattle.affc_loops.specs.Ends.{Sides, ends_of}
 use Rattle.affc_loops.specs.Laws.{HasLoops, HaveSameLoops}
 use Rattle.affc_loops.specs.Loops.{Scheduled, boxes, scheduled_from, scheduled}
 use Rattle.affc_loops.proofs.BetweenLaws.{few}
-use Rattle.affc_loops.proofs.Scheduled.{numbers_are}
 use Rattle.affc_cprint.specs.Forms.{program_passes}
 use Rattle.affc_wellnamed.specs.Known.{program_known}
 use Rattle.affc_wellnamed.specs.Plain.{is_plain}

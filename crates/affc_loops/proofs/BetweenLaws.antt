@@ -30,7 +30,7 @@ use Rattle.affc_domain.specs.Ranges.{number_ranges}
 use Rattle.affc_domain.specs.Rounds.{Round, rounds}
 use Rattle.affc_domain.proofs.Lists.{both_true}
 use Rattle.affc_domain.proofs.PlainLemmas.{has_assignment, rounds_are_plain}
-use Rattle.affc_domain.proofs.RangeLemmas.{in_ranges}
+use Rattle.affc_domain.proofs.RangeLemmas.{in_ranges, numbers_are}
 use Rattle.affc_domain.proofs.TurnLemmas.{instances_turn}
 use Rattle.affc_safe.specs.Overflow.{NeverOverflows}
 use Rattle.affc_safe.specs.Safe.{HasExtents, KeepsWithin}
@@ -49,7 +49,7 @@ use Rattle.affc_loops.proofs.Boxes.{sits, near_box, encloses, params_ordered}
 use Rattle.affc_loops.proofs.Does.{does}
 use Rattle.affc_loops.proofs.Guards.{see_outwards, plain_outwards}
 use Rattle.affc_loops.proofs.NestEffects.{done_by}
-use Rattle.affc_loops.proofs.Scheduled.{has_scheduled, numbers_are}
+use Rattle.affc_loops.proofs.Scheduled.{has_scheduled}
 use Rattle.affc_loops.proofs.PlainAlong.{plain_along, kept_at}
 use Rattle.affc_loops.proofs.PrintedRuns.{run_all, body_wants}
 use Rattle.affc_loops.proofs.SameLoops.{boxes_same, numbers_same, within_same, schedule_same, scheduled_none, times_same, encloses_same, small_same}

@@ -2,7 +2,7 @@
 use Rattle.std.proofs.Common.{◌≡◌, ℕ, suc, ◌+◌, ◌-◌, ℤ, Bool, true, false, ◌&&◌, if◌then◌else◌, List, [], ◌∷◌, ◌++◌, length, Option, Some, map, flat_map, refl, sym, ap, subst, ◌∙◌, inl, inr, arith}
 use Rattle.std.specs.Prelude.{slice_get}
 use Rattle.std.proofs.lemmas.Option.{same_Some}
-use Rattle.affc_rows.specs.Forms.{Affine, values_of, columns_of, HaveColumns}
+use Rattle.affc_rows.specs.Forms.{values_of, columns_of, HaveColumns}
 use Rattle.affc_ast.specs.declared.tree.Instance.{Instance}
 use Rattle.affc_ast.specs.declared.tree.Ix.{Ix}
 use Rattle.affc_ast.specs.declared.tree.Program.{Program}
@@ -26,6 +26,7 @@ use Rattle.affc_domain.specs.Rounds.{Round, rounds, turns}
 use Rattle.affc_domain.proofs.Lists.{both_true, true_both}
 use Rattle.affc_domain.proofs.PlainLemmas.{has_assignment}
 use Rattle.affc_domain.proofs.TurnLemmas.{instances_turn}
+use Rattle.affc_domain.proofs.ColumnLemmas.{values_long}
 use Rattle.affc_loops.specs.Loops.{Scheduled, scheduled_from, loop_names, locals_of, box_tests, time_tests, guarded, if_any, moved_assign, block_of}
 use Rattle.affc_loops.specs.Between.{LiesBetween, body_between}
 use Rattle.affc_loops.proofs.Boxed.{Encloses}
@@ -60,10 +61,6 @@ nested : {A : Type 0} (a b c : Bool) (xs : List A) → (if a then (if b then (if
 nested true true c xs = refl
 nested true false c xs = refl
 nested false b c xs = refl
-
-pub values_length : (fs : List Affine) (q : List ℤ) → length (values_of fs q) ≡ length fs
-values_length [] q = refl
-values_length (f ∷ fs) q = ap suc (values_length fs q)
 
 -- ---- a block
 
@@ -213,10 +210,10 @@ module _ (source : Program) (n : ℕ) (maps : List TimeMap) (ends : List (Ix × 
       }
 
   pub found_length : (e : Scheduled) (t : List ℤ) → Fine p more e → length (loop_names e.around) ≡ length (found p e t)
-  found_length e t f = f.names ∙ sym (values_length e.times.inverse (p ++ t))
+  found_length e t f = f.names ∙ sym (values_long e.times.inverse (p ++ t))
 
   pub forms_wide : (e : Scheduled) (t : List ℤ) → Fine p more e → HaveColumns (length p + length (found p e t)) e.times.forms
-  forms_wide e t f = subst (λ u. HaveColumns (length p + u) e.times.forms) (sym (values_length e.times.inverse (p ++ t))) f.wide
+  forms_wide e t f = subst (λ u. HaveColumns (length p + u) e.times.forms) (sym (values_long e.times.inverse (p ++ t))) f.wide
 
   sound : (e : Scheduled) (t : List ℤ) → IsIn e all → IsIn t times → tests_pass p more e t ≡ true
       → IsIn (runs source p more e t) (trace source p) × (time_of maps p (runs source p more e t) ≡ t)

@@ -11,8 +11,9 @@ use Rattle.affc_ast.specs.Index.{in_int64, index_step, index_value, nodes_of_ix}
 use Rattle.affc_trace.proofs.EndedReads.{append_assoc}
 use Rattle.affc_trace.proofs.LastStores.{push_append}
 use Rattle.affc_trace.proofs.Runs.{length_append}
+use Rattle.affc_domain.proofs.Lists.{neg_size, at_seam}
 use Rattle.affc_loops.specs.Trees.{name_at, number, times, Term, and_more, sum_of, terms_from, form_tree}
-use Rattle.affc_loops.proofs.FormTrees.{whole_neg, whole_add, whole_sub, whole_mul, times_is, get_here}
+use Rattle.affc_loops.proofs.FormTrees.{whole_neg, whole_add, whole_sub, whole_mul, times_is}
 use Rattle.affc_ast.proofs.Steps.{neg_here, add_here, sub_here, mul_here}
 use Rattle.affc_safe.specs.Overflow.{IsReadable}
 use Rattle.affc_safe.proofs.PlainReads.{small_is_int64}
@@ -72,11 +73,6 @@ reads_times (suc m) x names h =
     let s : unsigned_abs (pos (suc (suc m)) *ℤ get_or names x (pos 0)) ≡ suc (suc m) * unsigned_abs (get_or names x (pos 0)) = unsigned_abs-mul (pos (suc (suc m))) (get_or names x (pos 0)) in
     reads_mul (Lit (pos (suc (suc m)))) (name_at x) names (reads_lit _ names) (reads_name x names) (omega arith)
 
-pub neg_size : (z : ℤ) → unsigned_abs (neg_ℤ z) ≡ unsigned_abs z
-neg_size (pos zero) = refl
-neg_size (pos (suc n)) = refl
-neg_size (negsuc n) = refl
-
 sub_size : (a b : ℤ) → unsigned_abs (a -ℤ b) ≤ unsigned_abs a + unsigned_abs b
 sub_size a b = subst (λ n. unsigned_abs (a -ℤ b) ≤ unsigned_abs a + n) (neg_size b) (abs-add a (neg_ℤ b))
 
@@ -134,7 +130,7 @@ sizes_at (c ∷ cs) before [] after from e l = absurd (omega arith)
 sizes_at (c ∷ cs) before (x ∷ xs) after from e l =
     let pushed : length (before ++ x ∷ []) ≡ length before + 1 = length_append before (x ∷ []) in
     ap (λ n. unsigned_abs c * unsigned_abs (get_or (before ++ x ∷ (xs ++ after)) n (pos 0)) + term_sizes (terms_from (suc from) cs) (before ++ x ∷ (xs ++ after))) e
-    ∙ ap (λ z. unsigned_abs c * unsigned_abs z + term_sizes (terms_from (suc from) cs) (before ++ x ∷ (xs ++ after))) (get_here before x (xs ++ after))
+    ∙ ap (λ z. unsigned_abs c * unsigned_abs z + term_sizes (terms_from (suc from) cs) (before ++ x ∷ (xs ++ after))) (at_seam before x (xs ++ after))
     ∙ ap (λ l. unsigned_abs c * unsigned_abs x + term_sizes (terms_from (suc from) cs) l) (sym (push_append before x (xs ++ after)))
     ∙ ap (λ z. unsigned_abs c * unsigned_abs x + z) (sizes_at cs (before ++ x ∷ []) xs after (suc from) (omega arith) (omega arith))
 

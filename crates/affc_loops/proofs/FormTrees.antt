@@ -9,6 +9,7 @@ use Rattle.affc_rows.proofs.IntLemmas.{neg-mul}
 use Rattle.affc_trace.proofs.EndedReads.{append_assoc}
 use Rattle.affc_trace.proofs.Runs.{length_append}
 use Rattle.affc_trace.proofs.LastStores.{push_append}
+use Rattle.affc_domain.proofs.Lists.{at_seam}
 use Rattle.affc_loops.specs.Trees.{name_at, number, times, Term, and_more, sum_of, terms_from, form_tree}
 use Rattle.affc_ast.proofs.Steps.{neg_here, add_here, sub_here, mul_here}
 
@@ -107,17 +108,13 @@ sum_append ((c, x) ∷ ts) us names =
     ap (λ z. (c *ℤ get_or names x (pos 0)) +ℤ z) (sum_append ts us names)
     ∙ grouped (c *ℤ get_or names x (pos 0)) (sum_value ts names) (sum_value us names)
 
-pub get_here : (before : List ℤ) (x : ℤ) (after : List ℤ) → get_or (before ++ x ∷ after) (length before) (pos 0) ≡ x
-get_here [] x after = refl
-get_here (y ∷ before) x after = get_here before x after
-
 terms_at : (cs before xs after : List ℤ) (from : ℕ) → from ≡ length before → length cs ≡ length xs → sum_value (terms_from from cs) (before ++ (xs ++ after)) ≡ dot cs xs
 terms_at [] before xs after from e l = refl
 terms_at (c ∷ cs) before [] after from e l = absurd (omega arith)
 terms_at (c ∷ cs) before (x ∷ xs) after from e l =
     let pushed : length (before ++ x ∷ []) ≡ length before + 1 = length_append before (x ∷ []) in
     ap (λ n. (c *ℤ get_or (before ++ x ∷ (xs ++ after)) n (pos 0)) +ℤ sum_value (terms_from (suc from) cs) (before ++ x ∷ (xs ++ after))) e
-    ∙ ap (λ z. (c *ℤ z) +ℤ sum_value (terms_from (suc from) cs) (before ++ x ∷ (xs ++ after))) (get_here before x (xs ++ after))
+    ∙ ap (λ z. (c *ℤ z) +ℤ sum_value (terms_from (suc from) cs) (before ++ x ∷ (xs ++ after))) (at_seam before x (xs ++ after))
     ∙ ap (λ l. (c *ℤ x) +ℤ sum_value (terms_from (suc from) cs) l) (sym (push_append before x (xs ++ after)))
     ∙ ap (λ z. (c *ℤ x) +ℤ z) (terms_at cs (before ++ x ∷ []) xs after (suc from) (omega arith) (omega arith))
 

@@ -1,4 +1,3 @@
-pub mod Lists
 pub mod PointsOrder
 pub mod ScannedOrder
 pub mod FormTrees

@@ -1,5 +1,6 @@
 -- What the loops of a printed program do: what the blocks do, at each time that the loops run through.
 use Rattle.std.proofs.Common.{◌≡◌, ℕ, suc, ℤ, if◌then◌else◌, List, [], ◌∷◌, ◌++◌, map, flat_map, refl, sym, ap, ◌∙◌}
+use Rattle.std.proofs.lemmas.List.Concat.{flat_map-append}
 use Rattle.affc_ast.specs.declared.tree.Compare.{Compare}
 use Rattle.affc_ast.specs.declared.tree.Ix.{Ix}
 use Rattle.affc_ast.specs.declared.tree.Local.{Local}
@@ -15,16 +16,11 @@ use Rattle.affc_ast.proofs.Steps.{for_here, if_here, block_here}
 use Rattle.affc_trace.specs.Law.{Effect}
 use Rattle.affc_trace.specs.Effects.{with_all, each_of, effects_step}
 use Rattle.affc_trace.proofs.LastStores.{append_nil, push_append}
-use Rattle.affc_trace.proofs.EndedReads.{append_assoc}
 use Rattle.affc_loops.proofs.PointsOrder.{numbers_of, points}
 use Rattle.affc_loops.specs.Between.{loops_between}
 use Rattle.affc_loops.specs.Loops.{time_name, if_any}
 
 -- ---- lists
-
-flat_append : {A B : Type 0} (f : A → List B) (xs ys : List A) → flat_map f (xs ++ ys) ≡ flat_map f xs ++ flat_map f ys
-flat_append f [] ys = refl
-flat_append f (x ∷ xs) ys = ap (λ l. f x ++ l) (flat_append f xs ys) ∙ sym (append_assoc (f x) (flat_map f xs) (flat_map f ys))
 
 flat_map_mapped : {A B C : Type 0} (f : B → List C) (g : A → B) (xs : List A) → flat_map f (map g xs) ≡ flat_map (λ x. f (g x)) xs
 flat_map_mapped f g [] = refl
@@ -32,7 +28,7 @@ flat_map_mapped f g (x ∷ xs) = ap (λ l. f (g x) ++ l) (flat_map_mapped f g xs
 
 flat_twice : {A B C : Type 0} (f : B → List C) (g : A → List B) (xs : List A) → flat_map f (flat_map g xs) ≡ flat_map (λ x. flat_map f (g x)) xs
 flat_twice f g [] = refl
-flat_twice f g (x ∷ xs) = flat_append f (g x) (flat_map g xs) ∙ ap (λ l. flat_map f (g x) ++ l) (flat_twice f g xs)
+flat_twice f g (x ∷ xs) = flat_map-append f (g x) (flat_map g xs) ∙ ap (λ l. flat_map f (g x) ++ l) (flat_twice f g xs)
 
 pub flat_same : {A B : Type 0} (f g : A → List B) → ((x : A) → f x ≡ g x) → (xs : List A) → flat_map f xs ≡ flat_map g xs
 flat_same f g e [] = refl

@@ -14,9 +14,9 @@ use Rattle.affc_trace.specs.Law.{IsIn}
 use Rattle.affc_trace.specs.Orders.{Earlier}
 use Rattle.affc_trace.proofs.Members.{to_flat_map, in_map, to_map}
 use Rattle.affc_trace.proofs.Once.{in_flat_map}
+use Rattle.affc_trace.proofs.Earliers.{earlier_map, rises_flat_map, Rises}
 use Rattle.affc_domain.proofs.TurnLemmas.{counted_least, to_counted, below, not_below}
 use Rattle.affc_loops.specs.Between.{LiesBetween}
-use Rattle.affc_loops.proofs.Lists.{Rises, rises_flat_map, earlier_map}
 
 -- ---- the points
 

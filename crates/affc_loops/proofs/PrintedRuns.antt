@@ -30,6 +30,7 @@ use Rattle.affc_trace.proofs.Members.{in_map}
 use Rattle.affc_trace.proofs.Runs.{length_append}
 use Rattle.affc_domain.specs.Rounds.{Round, Loop, Test, rounds, turns}
 use Rattle.affc_domain.proofs.Lists.{both_true, true_both}
+use Rattle.affc_domain.proofs.ColumnLemmas.{values_long}
 use Rattle.affc_safe.specs.Overflow.{AreReadable, ReadsValue, ReadsAssignment}
 use Rattle.affc_safe.proofs.Along.{ReadAlong}
 use Rattle.affc_safe.proofs.PlainReads.{small_is_int64}
@@ -40,7 +41,7 @@ use Rattle.affc_loops.specs.Loops.{Scheduled, scheduled_from, loop_names, locals
 use Rattle.affc_loops.specs.Between.{LiesBetween, RunWithin, loops_between, body_between}
 use Rattle.affc_loops.specs.Trees.{name_at, moved, moved_compare, moved_value}
 use Rattle.affc_loops.proofs.Boxed.{Encloses, Small, box_length}
-use Rattle.affc_loops.proofs.Does.{Fine, parts, fine, values_length}
+use Rattle.affc_loops.proofs.Does.{Fine, parts, fine}
 use Rattle.affc_loops.proofs.Guards.{guard_tests, see_outwards}
 use Rattle.affc_loops.proofs.MovedReads.{all_readable_move, value_moves}
 use Rattle.affc_loops.proofs.MovedTrees.{moved_are, moved_loads}
@@ -179,8 +180,8 @@ scheduled_wants p t e extents fine along kept ranges_small one_each times_small 
     let third : List Stmt = guarded (length p) (length t) from e.around inner in
     let second : List Stmt = if_any (time_tests (length p) from (length p) e.times.forms) third in
     let first : List Stmt = if_any (box_tests from e.ranges) second in
-    let loops_are : length (loop_names e.around) ≡ length xs = fine.names ∙ sym (values_length e.times.inverse (p ++ t)) in
-    let wide : HaveColumns (length p + length xs) e.times.forms = subst (λ m. HaveColumns (length p + m) e.times.forms) (sym (values_length e.times.inverse (p ++ t))) fine.wide in
+    let loops_are : length (loop_names e.around) ≡ length xs = fine.names ∙ sym (values_long e.times.inverse (p ++ t)) in
+    let wide : HaveColumns (length p + length xs) e.times.forms = subst (λ m. HaveColumns (length p + m) e.times.forms) (sym (values_long e.times.inverse (p ++ t))) fine.wide in
     let outwards : see_outwards (length (p ++ [])) e.around ≡ true = subst (λ m. see_outwards (length m) e.around ≡ true) (sym (append_nil p)) fine.outwards in
     let guards_are : all_hold (guard_tests (length p) (length t) from e.around) names ≡ turns e.around p xs =
     guards_hold p t e.around [] xs from at_nil outwards loops_are ∙ ap (λ m. turns e.around m xs) (append_nil p) in

@@ -10,11 +10,12 @@ use Rattle.affc_system.specs.Boxes.{InBox, reach, box_magnitude}
 use Rattle.affc_system.specs.Systems.{Meets}
 use Rattle.affc_ast.specs.Fits.{whole}
 use Rattle.affc_trace.proofs.LastStores.{append_nil}
+use Rattle.affc_domain.proofs.Lists.{neg_size}
 use Rattle.affc_safe.specs.Overflow.{IsReadable}
 use Rattle.affc_loops.specs.Ends.{rest_of, opposite, last_of, least_by, greatest_by, IsRow, BoundsBelow, BoundsAbove}
 use Rattle.affc_loops.specs.Trees.{form_tree}
 use Rattle.affc_loops.proofs.EndTrees.{reads_up, reads_down, up_is, down_is, up_back, down_back}
-use Rattle.affc_loops.proofs.FormReads.{neg_size, form_reads}
+use Rattle.affc_loops.proofs.FormReads.{form_reads}
 use Rattle.affc_loops.proofs.FormTrees.{form_is}
 
 -- ---- a form over the names in sight
@@ -60,7 +61,7 @@ module _ (f : Affine) (names : List ℤ) (first : ℕ) (few : first ≤ length n
 neg_sum : (a b : ℤ) → neg_ℤ a +ℤ neg_ℤ b ≡ neg_ℤ (a +ℤ b)
 neg_sum a b = omega (arith, ints)
 
-dot_opposite : (cs xs : List ℤ) → dot (map neg_ℤ cs) xs ≡ neg_ℤ (dot cs xs)
+pub dot_opposite : (cs xs : List ℤ) → dot (map neg_ℤ cs) xs ≡ neg_ℤ (dot cs xs)
 dot_opposite [] xs = refl
 dot_opposite (c ∷ cs) [] = refl
 dot_opposite (c ∷ cs) (x ∷ xs) =

@@ -12,11 +12,12 @@ use Rattle.affc_domain.specs.Ranges.{number_ranges, ranges_of}
 use Rattle.affc_domain.specs.Rounds.{Round, rounds}
 use Rattle.affc_domain.proofs.PlainLemmas.{rounds_of_each}
 use Rattle.affc_domain.proofs.TurnLemmas.{instances_turn}
+use Rattle.affc_domain.proofs.RangeLemmas.{numbers_are}
 use Rattle.affc_loops.specs.Laws.{HaveSameLoops}
 use Rattle.affc_loops.specs.Loops.{Scheduled, box_in, boxes, scheduled_from, scheduled, times_of, time_ranges, loop_names}
 use Rattle.affc_loops.specs.Spans.{hulls}
 use Rattle.affc_loops.proofs.Boxed.{Encloses, Small}
-use Rattle.affc_loops.proofs.Scheduled.{loops_of_rounds, numbers_are}
+use Rattle.affc_loops.proofs.Scheduled.{loops_of_rounds}
 
 -- ---- The same times and ranges
 

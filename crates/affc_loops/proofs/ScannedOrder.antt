@@ -15,7 +15,7 @@ use Rattle.affc_trace.proofs.Legality.{earlier_is_in, later_is_in}
 use Rattle.affc_trace.proofs.Members.{to_first, to_second, to_flat_map}
 use Rattle.affc_trace.proofs.Once.{in_append, in_flat_map, once}
 use Rattle.affc_trace.proofs.Ordered.{time_cmp_total, target_is_in_order}
-use Rattle.affc_loops.proofs.Lists.{Rises, rises_flat_map, rising_are_distinct}
+use Rattle.affc_trace.proofs.Earliers.{rises_flat_map, rising_are_distinct, Rises}
 
 -- ---- what is let through
 

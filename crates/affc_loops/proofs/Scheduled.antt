@@ -16,14 +16,11 @@ use Rattle.affc_trace.specs.Law.{IsIn}
 use Rattle.affc_trace.specs.declared.schedule.Schedule.TheVariants.{Time}
 use Rattle.affc_trace.specs.Target.{each_round, loops_step, loops_round, numbers_in, IsMapOf, IsScheduleOf}
 use Rattle.affc_trace.proofs.Ordered.{map_of}
-use Rattle.affc_domain.specs.Ranges.{number_ranges}
-use Rattle.affc_ast.specs.declared.tree.Param.{Param}
-use Rattle.affc_ast.specs.declared.tree.Param.TheVariants.{Number, Array}
 use Rattle.affc_trace.proofs.LastStores.{map_append}
+use Rattle.affc_trace.proofs.Earliers.{Rises}
 use Rattle.affc_domain.specs.Rounds.{Round, Loop, Test, rounds_step, rounds as all_rounds}
 use Rattle.affc_domain.proofs.Lists.{to_mapped}
 use Rattle.affc_loops.specs.Loops.{Scheduled, scheduled_from, loop_names}
-use Rattle.affc_loops.proofs.Lists.{Rises}
 
 -- ---- as many loops as names
 
@@ -69,12 +66,6 @@ loops_of_rounds program = list_rounds program.body 0 ∙ at_none (all_rounds pro
 
 pub loops_are : (program : Program) (k : ℕ) (gs : List Round) → slice_get (all_rounds program) k ≡ Some gs → slice_get (loops_round program) k ≡ Some (length (loop_names gs))
 loops_are program k gs e = ap (λ l. slice_get l k) (loops_of_rounds program) ∙ to_mapped (λ gs. length (loop_names gs)) (all_rounds program) k gs e
-
--- one name for each number parameter
-pub numbers_are : (ps : List Param) → numbers_in ps ≡ length (number_ranges ps)
-numbers_are [] = refl
-numbers_are (Number name low high ∷ ps) = ap suc (numbers_are ps)
-numbers_are (Array decl ∷ ps) = numbers_are ps
 
 -- the shape of a statement's times
 pub shape_of : (source : Program) (n : ℕ) (maps : List TimeMap) → IsScheduleOf source (Time n maps) → (k : ℕ) (gs : List Round) (m : TimeMap)

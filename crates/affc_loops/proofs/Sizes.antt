@@ -22,6 +22,8 @@ use Rattle.affc_domain.specs.Ranges.{is_near, first_wide, number_ranges}
 use Rattle.affc_domain.specs.Rounds.{rounds, loops_in}
 use Rattle.affc_domain.proofs.Lists.{both_true}
 use Rattle.affc_domain.proofs.PlainLemmas.{rounds_are_plain, few_loops}
+use Rattle.affc_domain.proofs.RangeLemmas.{numbers_are}
+use Rattle.affc_domain.proofs.FormLemmas.{slight_coefs}
 use Rattle.affc_safe.specs.Overflow.{near_ranges}
 use Rattle.affc_loops.specs.Laws.{IsTime, AreTimeRanges}
 use Rattle.affc_loops.specs.Limits.{IsSlight}
@@ -29,7 +31,7 @@ use Rattle.affc_loops.specs.Loops.{Scheduled, boxes, scheduled, loop_names, time
 use Rattle.affc_loops.proofs.Boxed.{Small, box_length}
 use Rattle.affc_loops.proofs.Boxes.{Sits, sits, IsNearBox, near_box, params_ordered}
 use Rattle.affc_loops.proofs.Guards.{names_count}
-use Rattle.affc_loops.proofs.Scheduled.{is_scheduled_at, shape_of, numbers_are}
+use Rattle.affc_loops.proofs.Scheduled.{is_scheduled_at, shape_of}
 use Rattle.affc_loops.proofs.TimeRanges.{Spans, are_ranges}
 
 -- ---- Limits as facts
@@ -37,12 +39,6 @@ use Rattle.affc_loops.proofs.TimeRanges.{Spans, are_ranges}
 -- both ends are within this magnitude
 abbrev pub Within : ℕ → ℤ × ℤ → Type 0
 Within most range = (unsigned_abs range.0 ≤ most) × (unsigned_abs range.1 ≤ most)
-
-slight_coefs : (cs : List ℤ) → IsTrue (are_slight cs) → All (λ c. unsigned_abs c ≤ 256) cs
-slight_coefs [] h = λ i x l. absurd (omega arith)
-slight_coefs (c ∷ cs) h =
-    let a = both_true (nat_le (nat_abs c) 256) (are_slight cs) h in
-    All-cons (λ c. unsigned_abs c ≤ 256) c cs (leb-true (nat_abs c) 256 a.0) (slight_coefs cs a.1)
 
 pub slight_forms : (fs : List Affine) → IsTrue (all_slight fs) → All IsSlight fs
 slight_forms [] h = λ i x l. absurd (omega arith)
@@ -85,7 +81,7 @@ abbrev pub many : ℕ → ℕ → ℕ
 many zero k = 0
 many (suc n) k = k + many n k
 
-many_more : (m n k : ℕ) → m ≤ n → many m k ≤ many n k
+pub many_more : (m n k : ℕ) → m ≤ n → many m k ≤ many n k
 many_more zero n k h = omega arith
 many_more (suc m) zero k h = absurd (omega arith)
 many_more (suc m) (suc n) k h = let r : many m k ≤ many n k = many_more m n k (omega arith) in omega arith
@@ -93,7 +89,7 @@ many_more (suc m) (suc n) k h = let r : many m k ≤ many n k = many_more m n k 
 abbrev AllWithin : ℕ → List ℤ → Type 0
 AllWithin most xs = All (λ x. unsigned_abs x ≤ most) xs
 
-product_below : (a b c d : ℕ) → a ≤ c → b ≤ d → a * b ≤ c * d
+pub product_below : (a b c d : ℕ) → a ≤ c → b ≤ d → a * b ≤ c * d
 product_below a b c d h k =
     let p : a * b ≤ a * d = mul-le-mul_left a k in
     let q : a * d ≤ c * d = mul-le-mul_right d h in
@@ -160,12 +156,12 @@ values_at [] q j x e = absurd (none-some x e)
 values_at (f ∷ fs) q zero x e = (f, refl, same_Some (value f q) x e)
 values_at (f ∷ fs) q (suc j) x e = values_at fs q j x e
 
-all_at : {A : Type 0} (P : A → Type 0) (xs : List A) (j : ℕ) (x : A) → All P xs → slice_get xs j ≡ Some x → P x
+pub all_at : {A : Type 0} (P : A → Type 0) (xs : List A) (j : ℕ) (x : A) → All P xs → slice_get xs j ≡ Some x → P x
 all_at P [] j x a e = absurd (none-some x e)
 all_at P (y ∷ xs) zero x a e = subst P (same_Some y x e) (a 0 y (omega arith))
 all_at P (y ∷ xs) (suc j) x a e = all_at P xs j x (λ i z m. a (suc i) z (omega arith)) e
 
-all_from : {A : Type 0} (P : A → Type 0) (xs : List A) → ((j : ℕ) (x : A) → slice_get xs j ≡ Some x → P x) → All P xs
+pub all_from : {A : Type 0} (P : A → Type 0) (xs : List A) → ((j : ℕ) (x : A) → slice_get xs j ≡ Some x → P x) → All P xs
 all_from P [] h = λ i x m. absurd (omega arith)
 all_from P (y ∷ xs) h = All-cons P y xs (h zero y refl) (all_from P xs (λ j x e. h (suc j) x e))
 

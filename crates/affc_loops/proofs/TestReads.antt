@@ -27,11 +27,11 @@ use Rattle.affc_loops.proofs.Guards.{guard_tests, both_see, see_outwards}
 use Rattle.affc_loops.specs.Limits.{IsSmall}
 use Rattle.affc_loops.specs.Trees.{number, form_tree, moved, moved_compare}
 use Rattle.affc_loops.proofs.FormReads.{reads_name, reads_number, form_reads}
-use Rattle.affc_loops.proofs.FormTrees.{number_is, form_is, get_here}
+use Rattle.affc_loops.proofs.FormTrees.{number_is, form_is}
 use Rattle.affc_loops.proofs.MovedReads.{moves}
 use Rattle.affc_loops.proofs.MovedTrees.{get_front, moved_name_is, moved_holds}
 use Rattle.affc_loops.proofs.Tests.{next_component, goes, outside, conds_front}
-use Rattle.affc_domain.proofs.Lists.{both_true, true_both, true_le}
+use Rattle.affc_domain.proofs.Lists.{both_true, true_both, true_le, at_seam}
 use Rattle.affc_safe.specs.Overflow.{IsReadable}
 use Rattle.affc_safe.proofs.Wants.{ReadableAll, bind_to}
 
@@ -114,7 +114,7 @@ true_box before (x ∷ xs) [] from e l h = absurd (omega arith)
 true_box before [] (r ∷ rs) from e l h = absurd (omega arith)
 true_box before (x ∷ xs) (r ∷ rs) from e l h =
     let names : List ℤ = before ++ x ∷ xs in
-    let here : get_or names from (pos 0) ≡ x = ap (λ n. get_or names n (pos 0)) e ∙ get_here before x xs in
+    let here : get_or names from (pos 0) ≡ x = ap (λ n. get_or names n (pos 0)) e ∙ at_seam before x xs in
     let pushed : length (before ++ x ∷ []) ≡ length before + 1 = length_append before (x ∷ []) in
     let a = both_true (int_le (whole (number r.0) names) (get_or names from (pos 0))) (int_le (get_or names from (pos 0)) (whole (number r.1) names) && all_hold (box_tests (suc from) rs) names) h in
     let b = both_true (int_le (get_or names from (pos 0)) (whole (number r.1) names)) (all_hold (box_tests (suc from) rs) names) a.1 in (
@@ -166,7 +166,7 @@ module _ (p t : List ℤ) where
       let d = both_true (is_upward rel) (see_outwards (suc (length (p ++ done))) gs) b.1 in
       let values : List ℤ = p ++ (t ++ (done ++ x ∷ xs)) in
       let whole_list : values ≡ (p ++ (t ++ done)) ++ x ∷ xs = ap (λ m. p ++ m) (sym (append_assoc t done (x ∷ xs))) ∙ sym (append_assoc p (t ++ done) (x ∷ xs)) in
-      let here : get_or values from (pos 0) ≡ x = ap (λ n. get_or values n (pos 0)) e ∙ ap (λ m. get_or m (length (p ++ (t ++ done))) (pos 0)) whole_list ∙ get_here (p ++ (t ++ done)) x xs in
+      let here : get_or values from (pos 0) ≡ x = ap (λ n. get_or values n (pos 0)) e ∙ ap (λ m. get_or m (length (p ++ (t ++ done))) (pos 0)) whole_list ∙ at_seam (p ++ (t ++ done)) x xs in
       let next : length (p ++ (t ++ (done ++ x ∷ []))) ≡ suc (length (p ++ (t ++ done))) = ap (λ m. length (p ++ m)) (sym (append_assoc t done (x ∷ []))) ∙ sym (next_component p (t ++ done) x) in
       let low_is = outside p t done (x ∷ xs) low a.0 in
       let high_is = outside p t done (x ∷ xs) high b.0 in (

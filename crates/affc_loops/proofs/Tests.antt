@@ -22,10 +22,10 @@ use Rattle.affc_domain.specs.Rounds.{Round, Loop, Test, goes_on, turns}
 use Rattle.affc_loops.specs.Trees.{number, form_tree, moved, moved_compare}
 use Rattle.affc_domain.specs.Affine.{sees}
 use Rattle.affc_domain.specs.Plain.{is_upward}
-use Rattle.affc_domain.proofs.Lists.{both_true, true_both, le_true, true_le}
+use Rattle.affc_domain.proofs.Lists.{both_true, true_both, le_true, true_le, at_seam}
 use Rattle.affc_loops.specs.Loops.{loop_names, locals_of, box_tests, time_tests}
 use Rattle.affc_loops.proofs.Guards.{guard_tests, both_see, see_outwards}
-use Rattle.affc_loops.proofs.FormTrees.{number_is, form_is, get_here}
+use Rattle.affc_loops.proofs.FormTrees.{number_is, form_is}
 use Rattle.affc_loops.proofs.MovedTrees.{get_front, moved_is, moved_holds}
 
 -- ---- expressions that hold only the first names
@@ -94,7 +94,7 @@ box_true before (x ∷ xs) [] from e b = absurd b
 box_true before [] (r ∷ rs) from e b = absurd b
 box_true before (x ∷ xs) (r ∷ rs) from e b =
     let names : List ℤ = before ++ x ∷ xs in
-    let here : get_or names from (pos 0) ≡ x = ap (λ n. get_or names n (pos 0)) e ∙ get_here before x xs in
+    let here : get_or names from (pos 0) ≡ x = ap (λ n. get_or names n (pos 0)) e ∙ at_seam before x xs in
     let pushed : length (before ++ x ∷ []) ≡ length before + 1 = length_append before (x ∷ []) in
     let low : compares LessEqual (whole (number r.0) names) (get_or names from (pos 0)) ≡ true =
     ap (λ z. int_le z (get_or names from (pos 0))) (number_is r.0 names) ∙ ap (int_le r.0) here ∙ le_true r.0 x b.0 in
@@ -149,7 +149,7 @@ module _ (p t xs : List ℤ) where
       ap (λ l. get_or (p ++ (l ++ xs)) (length (p ++ done)) (pos 0)) e
       ∙ ap (λ l. get_or (p ++ l) (length (p ++ done)) (pos 0)) (append_assoc done (x ∷ rest) xs)
       ∙ ap (λ l. get_or l (length (p ++ done)) (pos 0)) (sym (append_assoc p done (x ∷ (rest ++ xs))))
-      ∙ get_here (p ++ done) x (rest ++ xs)
+      ∙ at_seam (p ++ done) x (rest ++ xs)
 
   form_here : (f : Affine) → length f.coefs ≡ length p + length xs → whole (form_tree (length p) (length (p ++ t)) f) names ≡ value f (p ++ xs)
   form_here f l = ap (λ m. whole (form_tree (length p) (length (p ++ t)) f) (p ++ (t ++ m))) (sym (append_nil xs)) ∙ form_is f p t xs [] (length p) (length (p ++ t)) refl refl l
@@ -216,7 +216,7 @@ module _ (p t : List ℤ) where
       let d = both_true (is_upward rel) (see_outwards (suc (length (p ++ done))) gs) b.1 in
       let values : List ℤ = p ++ (t ++ (done ++ x ∷ xs)) in
       let whole_list : values ≡ (p ++ (t ++ done)) ++ x ∷ xs = ap (λ m. p ++ m) (sym (append_assoc t done (x ∷ xs))) ∙ sym (append_assoc p (t ++ done) (x ∷ xs)) in
-      let here : get_or values from (pos 0) ≡ x = ap (λ n. get_or values n (pos 0)) e ∙ ap (λ m. get_or m (length (p ++ (t ++ done))) (pos 0)) whole_list ∙ get_here (p ++ (t ++ done)) x xs in
+      let here : get_or values from (pos 0) ≡ x = ap (λ n. get_or values n (pos 0)) e ∙ ap (λ m. get_or m (length (p ++ (t ++ done))) (pos 0)) whole_list ∙ at_seam (p ++ (t ++ done)) x xs in
       let next : length (p ++ (t ++ (done ++ x ∷ []))) ≡ suc (length (p ++ (t ++ done))) = ap (λ m. length (p ++ m)) (sym (append_assoc t done (x ∷ []))) ∙ sym (next_component p (t ++ done) x) in
       let rest : all_hold (guard_tests (length p) (length t) (suc from) gs) values ≡ turns gs ((p ++ done) ++ x ∷ []) xs =
       ap (λ m. all_hold (guard_tests (length p) (length t) (suc from) gs) (p ++ (t ++ m))) (sym (push_append done x xs))

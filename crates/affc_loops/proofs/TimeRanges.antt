@@ -9,17 +9,12 @@ use Rattle.affc_rows.specs.Forms.{Affine, values_of, HaveColumns}
 use Rattle.affc_system.specs.Boxes.{IsBox, IsRange, InBox, corner}
 use Rattle.affc_system.proofs.BoxLemmas.{corner_in_box, corner_is_corner, value_least, value_greatest}
 use Rattle.affc_trace.specs.Law.{IsIn}
+use Rattle.affc_domain.proofs.RangeLemmas.{box_append}
 use Rattle.affc_loops.specs.Laws.{IsTime, AreTimeRanges}
 use Rattle.affc_loops.specs.Loops.{Scheduled, times_of, time_ranges}
 use Rattle.affc_loops.specs.Spans.{span, hull, hulls}
 
 -- ---- Boxes side by side
-
-pub box_append : (rs ss : List (ℤ × ℤ)) (xs ys : List ℤ) → InBox rs xs → InBox ss ys → InBox (rs ++ ss) (xs ++ ys)
-box_append [] ss [] ys b c = c
-box_append [] ss (x ∷ xs) ys b c = absurd b
-box_append (r ∷ rs) ss [] ys b c = absurd b
-box_append (r ∷ rs) ss (x ∷ xs) ys b c = (b.0, b.1, box_append rs ss xs ys b.2 c)
 
 -- a point of both in two parts
 pub record Parts (rs ss : List (ℤ × ℤ)) (zs : List ℤ) : Type 0 where

@@ -13,11 +13,11 @@ use Rattle.affc_trace.specs.Inverses.{zeros, unit_row, column, columns_from}
 use Rattle.affc_trace.proofs.EndedReads.{append_assoc}
 use Rattle.affc_domain.specs.Affine.{unit_of}
 use Rattle.affc_domain.specs.Loops.{shared}
+use Rattle.affc_domain.proofs.Lists.{stands_in, there_is}
 use Rattle.affc_nest.specs.Asked.{IsNest}
 use Rattle.affc_nest.specs.Domains.{column_form, compare_rows}
 use Rattle.affc_nest.specs.declared.nest.Nest.{Nest}
 use Rattle.affc_nest.specs.Sides.{IsSide}
-use Rattle.affc_nest.proofs.QuestionLemmas.{there_is, stands_in}
 use Rattle.affc_nest.proofs.QuestionProofs.{few_numbered}
 use Rattle.affc_nest.proofs.RowLemmas.{column_side}
 use Rattle.affc_order.specs.Asked.{IsScheduled}
@@ -82,15 +82,6 @@ lex_made columns n f g fs gs later_fs later_gs equal both tie old first new some
     e ∙ ap (λ r. first ++ map rows_in (lex_systems columns (n - 1) later_fs later_gs r tie)) b ∙ ap (λ s. s ++ tail) d
     ∙ append_assoc old ((equal ++ compare_rows Less f g) ∷ []) tail ∙ ap (λ x. old ++ x) (sym (lex_next columns n f g later_fs later_gs equal tie some))
     ∙ ap (λ xs. old ++ map rows_in (lex_systems columns n xs (g ∷ later_gs) equal tie)) (sym i) ∙ ap (λ ys. old ++ map rows_in (lex_systems columns n fs ys equal tie)) (sym j)
-
--- without forms none is compared
-pub lex_none : (columns n : ℕ) (gs rows : List Affine) (tie : Bool) → (n ≡ 0 → ⊥) → map rows_in (lex_systems columns n [] gs rows tie) ≡ []
-lex_none columns zero gs rows tie h = absurd (h refl)
-lex_none columns (suc n) gs rows tie h = refl
-
-pub lex_none_left : (columns n : ℕ) (f : Affine) (fs rows : List Affine) (tie : Bool) → (n ≡ 0 → ⊥) → map rows_in (lex_systems columns n (f ∷ fs) [] rows tie) ≡ []
-lex_none_left columns zero f fs rows tie h = absurd (h refl)
-lex_none_left columns (suc n) f fs rows tie h = refl
 
 -- ---- Spread sides
 

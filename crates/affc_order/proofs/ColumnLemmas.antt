@@ -1,48 +1,14 @@
 -- Lists of forms at a point: columns, and forms at their images.
-use Rattle.std.proofs.Common.{◌≡◌, ℕ, zero, suc, ◌+◌, ℤ, pos, ◌+ℤ◌, List, [], ◌∷◌, ◌++◌, length, map, replicate, get_or, refl, sym, ap, subst, ◌∙◌, arith}
-use Rattle.std.proofs.lemmas.List.Elements.{All-nil, All-cons, All-head, All-tail}
+use Rattle.std.proofs.Common.{◌≡◌, ℕ, zero, suc, ℤ, pos, ◌+ℤ◌, List, [], ◌∷◌, ◌++◌, length, map, replicate, refl, sym, ap, subst, ◌∙◌, arith}
 use Rattle.affc_rows.specs.Forms.{Affine, value, dot, values_of, composed, HaveColumns}
 use Rattle.affc_rows.proofs.ValueLemmas.{value-composed, length-composed}
 use Rattle.affc_trace.specs.Inverses.{column, columns_from}
 use Rattle.affc_trace.proofs.EndedReads.{append_assoc}
 use Rattle.affc_trace.proofs.Recovers.{length-unit_row, value-column}
 use Rattle.affc_domain.proofs.FormLemmas.{number_value}
+use Rattle.affc_domain.proofs.ColumnLemmas.{no_columns, more_columns, first_columns, later_columns, cons_is}
+use Rattle.affc_domain.proofs.Lists.{length_push, at_seam}
 use Rattle.affc_order.specs.Posed.{form_at}
-
--- ---- Widths
-
-pub no_columns : (n : ℕ) → HaveColumns n []
-no_columns n = All-nil (λ g. length g.coefs ≡ n)
-
-pub more_columns : (n : ℕ) (f : Affine) (fs : List Affine) → length f.coefs ≡ n → HaveColumns n fs → HaveColumns n (f ∷ fs)
-more_columns n f fs e h = All-cons (λ g. length g.coefs ≡ n) f fs e h
-
-pub first_columns : (n : ℕ) (f : Affine) (fs : List Affine) → HaveColumns n (f ∷ fs) → length f.coefs ≡ n
-first_columns n f fs h = All-head (λ g. length g.coefs ≡ n) f fs h
-
-pub later_columns : (n : ℕ) (f : Affine) (fs : List Affine) → HaveColumns n (f ∷ fs) → HaveColumns n fs
-later_columns n f fs h = All-tail (λ g. length g.coefs ≡ n) f fs h
-
-pub append_columns : (n : ℕ) (fs gs : List Affine) → HaveColumns n fs → HaveColumns n gs → HaveColumns n (fs ++ gs)
-append_columns n [] gs h g = g
-append_columns n (f ∷ fs) gs h g = more_columns n f (fs ++ gs) (first_columns n f fs h) (append_columns n fs gs (later_columns n f fs h) g)
-
--- ---- Values
-
-pub cons_is : {A : Type 0} (a b : A) (xs ys : List A) → a ≡ b → xs ≡ ys → a ∷ xs ≡ b ∷ ys
-cons_is a b xs ys e f = ap (λ z. z ∷ xs) e ∙ ap (λ zs. b ∷ zs) f
-
-pub values_append : (fs gs : List Affine) (xs : List ℤ) → values_of (fs ++ gs) xs ≡ values_of fs xs ++ values_of gs xs
-values_append [] gs xs = refl
-values_append (f ∷ fs) gs xs = ap (λ z. value f xs ∷ z) (values_append fs gs xs)
-
-pub values_long : (fs : List Affine) (xs : List ℤ) → length (values_of fs xs) ≡ length fs
-values_long [] xs = refl
-values_long (f ∷ fs) xs = ap suc (values_long fs xs)
-
-pub forms_append : (fs gs : List Affine) → length (fs ++ gs) ≡ length fs + length gs
-forms_append [] gs = omega arith
-forms_append (f ∷ fs) gs = omega (arith, forms_append fs gs)
 
 -- ---- Forms at their images
 
@@ -84,14 +50,6 @@ pub from_long : (columns first n : ℕ) → length (columns_from columns first n
 from_long columns first zero = refl
 from_long columns first (suc n) = ap suc (from_long columns (suc first) n)
 
-seam : (us : List ℤ) (b : ℤ) (bs : List ℤ) → get_or (us ++ b ∷ bs) (length us) (pos 0) ≡ b
-seam [] b bs = refl
-seam (a ∷ us) b bs = seam us b bs
-
-push_long : (us : List ℤ) (b : ℤ) → length (us ++ b ∷ []) ≡ suc (length us)
-push_long [] b = refl
-push_long (a ∷ us) b = ap suc (push_long us b)
-
 -- some columns of a point in the middle of it
 pub segment : (us bs cs : List ℤ) → values_of (columns_from (length (us ++ (bs ++ cs))) (length us) (length bs)) (us ++ (bs ++ cs)) ≡ bs
 segment us [] cs = refl
@@ -99,8 +57,8 @@ segment us (b ∷ bs) cs =
     let zs : List ℤ = us ++ b ∷ (bs ++ cs) in
     let same : (us ++ b ∷ []) ++ (bs ++ cs) ≡ zs = append_assoc us (b ∷ []) (bs ++ cs) in
     cons_is (value (column (length zs) (length us)) zs) b (values_of (columns_from (length zs) (suc (length us)) (length bs)) zs) bs
-    (value-column (length zs) (length us) zs refl ∙ seam us b (bs ++ cs))
-    (subst (λ n. values_of (columns_from (length zs) n (length bs)) zs ≡ bs) (push_long us b)
+    (value-column (length zs) (length us) zs refl ∙ at_seam us b (bs ++ cs))
+    (subst (λ n. values_of (columns_from (length zs) n (length bs)) zs ≡ bs) (length_push us b)
     (subst (λ ys. values_of (columns_from (length ys) (length (us ++ b ∷ [])) (length bs)) ys ≡ bs) same (segment (us ++ b ∷ []) bs cs)))
 
 -- the same, where the point and the numbers are given otherwise

@@ -16,17 +16,16 @@ use Rattle.affc_trace.specs.Target.{each_round, loops_step, loops_round, numbers
 use Rattle.affc_trace.proofs.LastStores.{map_append}
 use Rattle.affc_trace.proofs.Ordered.{map_of}
 use Rattle.affc_domain.specs.Loops.{numbered_step, in_text_order, loop_numbers}
-use Rattle.affc_domain.proofs.Lists.{both_true, to_mapped}
+use Rattle.affc_domain.proofs.Lists.{both_true, to_mapped, there_is}
+use Rattle.affc_domain.proofs.RangeLemmas.{numbers_are}
 use Rattle.affc_nest.specs.declared.nest.Entry.{Entry}
 use Rattle.affc_nest.specs.declared.nest.Nest.{Nest}
 use Rattle.affc_nest.specs.Laws.{IsEntry}
 use Rattle.affc_nest.proofs.EntryLemmas.{site_of, entries_stand}
-use Rattle.affc_nest.proofs.QuestionLemmas.{there_is}
 use Rattle.affc_order.specs.Asked.{IsScheduled}
 use Rattle.affc_nest.specs.Parts.{statement_or_none, statement_of}
 use Rattle.affc_order.specs.Placed.{IsTimed}
 use Rattle.affc_order.specs.Systems.{loops_or_none, loops_of}
-use Rattle.affc_order.proofs.TimeLemmas.{numbers_are}
 
 under_loop : (first depth : ℕ) (xss : List (List ℕ)) → map (λ ls. suc depth + length ls) xss ≡ map (λ ls. depth + length ls) (map (λ ls. first ∷ ls) xss)
 under_loop first depth [] = refl

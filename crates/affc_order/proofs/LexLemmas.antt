@@ -9,11 +9,11 @@ use Rattle.affc_system.proofs.SystemLemmas.{point_of_fewer_rows}
 use Rattle.affc_ast.specs.declared.tree.Rel.TheVariants.{Less, Equal}
 use Rattle.affc_trace.specs.Law.{IsIn}
 use Rattle.affc_domain.specs.Loops.{IsBefore}
+use Rattle.affc_domain.proofs.ColumnLemmas.{first_columns, later_columns}
 use Rattle.affc_nest.specs.Domains.{compare_rows}
 use Rattle.affc_nest.proofs.DomainLemmas.{to_all, from_all, rows_say, say_rows}
 use Rattle.affc_order.specs.Laws.{IsPointOfOne}
 use Rattle.affc_order.specs.Systems.{lex_systems}
-use Rattle.affc_order.proofs.ColumnLemmas.{first_columns, later_columns}
 
 -- each system is over the columns
 pub lex_columns : (columns n : ℕ) (fs gs rows : List Affine) (tie : Bool) (s : Rows) → IsIn s (lex_systems columns n fs gs rows tie) → s.columns ≡ columns

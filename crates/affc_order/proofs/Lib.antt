@@ -8,5 +8,4 @@ pub mod CodeLemmas
 pub mod ExampleProofs
 pub mod ImageLemmas
 pub mod PlacedLemmas
-pub mod ListLemmas
 pub mod RowLemmas

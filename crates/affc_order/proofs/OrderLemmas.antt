@@ -25,19 +25,20 @@ use Rattle.affc_domain.specs.Ranges.{number_ranges}
 use Rattle.affc_domain.proofs.OrderLemmas.{one_each, order_of_the_text, before_tie}
 use Rattle.affc_domain.proofs.PlainLemmas.{has_assignment}
 use Rattle.affc_domain.proofs.TurnLemmas.{instances_turn}
+use Rattle.affc_domain.proofs.Lists.{there_is}
+use Rattle.affc_domain.proofs.RangeLemmas.{numbers_are}
 use Rattle.affc_nest.specs.declared.nest.Entry.{Entry}
 use Rattle.affc_nest.specs.declared.nest.Nest.{Nest}
 use Rattle.affc_nest.specs.Laws.{HasNest, IsEntry}
 use Rattle.affc_nest.specs.Nests.{nest_of}
 use Rattle.affc_nest.specs.Parts.{statement_or_none, statement_of}
 use Rattle.affc_nest.proofs.EntryLemmas.{site_of, entries_stand}
-use Rattle.affc_nest.proofs.QuestionLemmas.{there_is}
 use Rattle.affc_order.specs.Laws.{IsPointOfOne, SourceOrderIsTheTrace, TargetOrderIsTheTarget, SystemsAreTheOrders, SchedulesAreAsked}
 use Rattle.affc_order.specs.Posed.{Posed, IsPosed, form_at}
 use Rattle.affc_order.specs.Systems.{loops_or_none, loops_of, source_order, forms_or_none, time_forms, target_order, pair_columns, first_posed, second_posed}
 use Rattle.affc_order.proofs.ColumnLemmas.{at_width, from_width, segment_at}
 use Rattle.affc_order.proofs.LexLemmas.{lex_columns, lex_is_before, before_is_lex}
-use Rattle.affc_order.proofs.TimeLemmas.{nat_less, less_nat, less_before, before_less, numbers_are, time_value}
+use Rattle.affc_order.proofs.TimeLemmas.{nat_less, less_nat, less_before, before_less, time_value}
 
 -- ---- Statements
 

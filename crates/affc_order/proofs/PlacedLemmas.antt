@@ -1,6 +1,6 @@
 -- Instances by forms, and their times.
 use Rattle.std.proofs.Common.{◌≡◌, ℕ, ◌+◌, ◌^◌, ◌<◌, ◌≤◌, ℤ, IsTrue, List, [], ◌∷◌, ◌++◌, length, map, get_or, sym, ap, subst, ◌∙◌, arith}
-use Rattle.std.specs.Prelude.{unsigned_abs, nat_le, nat_abs, ◌&&◌}
+use Rattle.std.specs.Prelude.{nat_le, nat_abs, ◌&&◌}
 use Rattle.std.specs.List.{All}
 use Rattle.std.proofs.lemmas.Bool.{leb-true}
 use Rattle.std.proofs.lemmas.List.Elements.{All-nil, All-cons, All-append, All-weaker}
@@ -14,6 +14,8 @@ use Rattle.affc_trace.specs.Inverses.{columns_from}
 use Rattle.affc_trace.specs.Target.{are_slight, all_slight}
 use Rattle.affc_trace.proofs.Runs.{length_append}
 use Rattle.affc_domain.proofs.Lists.{both_true, length_map}
+use Rattle.affc_domain.proofs.ColumnLemmas.{first_columns, later_columns}
+use Rattle.affc_domain.proofs.FormLemmas.{slight_coefs}
 use Rattle.affc_nest.specs.Asked.{IsNest}
 use Rattle.affc_nest.specs.declared.nest.Nest.{Nest}
 use Rattle.affc_nest.specs.Parts.{statement_of}
@@ -25,7 +27,7 @@ use Rattle.affc_order.specs.Placed.{AreImages, HasMap, IsPlaced}
 use Rattle.affc_order.specs.Posed.{Posed, form_at}
 use Rattle.affc_order.specs.Systems.{pair_columns, coordinates_of, forms_or_none, time_forms}
 use Rattle.affc_order.proofs.CodeLemmas.{columns_sides, few_loops}
-use Rattle.affc_order.proofs.ColumnLemmas.{first_columns, later_columns, from_long}
+use Rattle.affc_order.proofs.ColumnLemmas.{from_long}
 use Rattle.affc_order.proofs.ImageLemmas.{images_wide}
 
 -- columns are rows
@@ -34,18 +36,12 @@ columns_rows columns first n = All-weaker (IsSide columns) (IsRow columns) (λ f
 
 -- ---- Slight forms
 
-slight_all : (cs : List ℤ) → IsTrue (are_slight cs) → All (λ c. unsigned_abs c ≤ 256) cs
-slight_all [] h = All-nil (λ c. unsigned_abs c ≤ 256)
-slight_all (c ∷ cs) h =
-    let a = both_true (nat_le (nat_abs c) 256) (are_slight cs) h in
-    All-cons (λ c. unsigned_abs c ≤ 256) c cs (leb-true (nat_abs c) 256 a.0) (slight_all cs a.1)
-
 pub slight_forms : (n : ℕ) (fs : List Affine) → HaveColumns n fs → IsTrue (all_slight fs) → All (IsWithin n 256 (2 ^ 30)) fs
 slight_forms n [] w h = All-nil (IsWithin n 256 (2 ^ 30))
 slight_forms n (f ∷ fs) w h =
     let a = both_true (nat_le (nat_abs f.constant) (2 ^ 30) && are_slight f.coefs) (all_slight fs) h in
     let b = both_true (nat_le (nat_abs f.constant) (2 ^ 30)) (are_slight f.coefs) a.0 in
-    All-cons (IsWithin n 256 (2 ^ 30)) f fs (record { width = first_columns n f fs w; coefs_fit = slight_all f.coefs b.1; constant_fits = leb-true (nat_abs f.constant) (2 ^ 30) b.0 }) (slight_forms n fs (later_columns n f fs w) a.1)
+    All-cons (IsWithin n 256 (2 ^ 30)) f fs (record { width = first_columns n f fs w; coefs_fit = slight_coefs f.coefs b.1; constant_fits = leb-true (nat_abs f.constant) (2 ^ 30) b.0 }) (slight_forms n fs (later_columns n f fs w) a.1)
 
 -- ---- Times
 

@@ -8,28 +8,19 @@ use Rattle.affc_trace.specs.Inverses.{zeros, columns_from}
 use Rattle.affc_trace.proofs.EndedReads.{append_assoc}
 use Rattle.affc_trace.proofs.Recovers.{length-zeros}
 use Rattle.affc_trace.proofs.Runs.{length_append}
+use Rattle.affc_domain.proofs.ColumnLemmas.{append_columns, values_append}
+use Rattle.affc_domain.proofs.FormLemmas.{dot_widened}
 use Rattle.affc_order.specs.Posed.{form_at}
 use Rattle.affc_order.specs.Spread.{spread}
-use Rattle.affc_order.proofs.ColumnLemmas.{append_columns, values_append, forms_append, at_value, from_width, from_long, segment_at}
+use Rattle.affc_order.proofs.ColumnLemmas.{at_value, from_width, from_long, segment_at}
 
 -- ---- Values
 
 no_term : (x d e : ℤ) → d ≡ e → (pos 0 *ℤ x) +ℤ d ≡ e
 no_term x d e h = omega (arith, ints)
 
-zeros_behind : (n : ℕ) (ns : List ℤ) → dot (replicate n (pos 0)) ns ≡ pos 0
-zeros_behind zero ns = refl
-zeros_behind (suc n) [] = refl
-zeros_behind (suc n) (x ∷ ns) = no_term x (dot (replicate n (pos 0)) ns) (pos 0) (zeros_behind n ns)
-
-dot_behind : (cs xs ns : List ℤ) (n : ℕ) → length cs ≡ length xs → dot (cs ++ replicate n (pos 0)) (xs ++ ns) ≡ dot cs xs
-dot_behind [] [] ns n e = zeros_behind n ns
-dot_behind [] (x ∷ xs) ns n e = absurd (omega arith)
-dot_behind (c ∷ cs) [] ns n e = absurd (omega arith)
-dot_behind (c ∷ cs) (x ∷ xs) ns n e = ap (λ d. (c *ℤ x) +ℤ d) (dot_behind cs xs ns n (omega (arith, e)))
-
 dot_between : (ks cs xs ns : List ℤ) (n : ℕ) → length cs ≡ length xs → dot (replicate (length ks) (pos 0) ++ (cs ++ replicate n (pos 0))) (ks ++ (xs ++ ns)) ≡ dot cs xs
-dot_between [] cs xs ns n e = dot_behind cs xs ns n e
+dot_between [] cs xs ns n e = dot_widened cs xs ns n e
 dot_between (k ∷ ks) cs xs ns n e = no_term k (dot (replicate (length ks) (pos 0) ++ (cs ++ replicate n (pos 0))) (ks ++ (xs ++ ns))) (dot cs xs) (dot_between ks cs xs ns n e)
 
 dot_spread : (p ks xs ns cs : List ℤ) (n : ℕ) → length cs ≡ length p + length xs
@@ -88,7 +79,7 @@ same_form f g w h =
 -- ---- A form at columns
 
 -- a list cut in two
-cut : (m : ℕ) (xs : List ℤ) → m ≤ length xs → (us : List ℤ) × (vs : List ℤ) × (xs ≡ us ++ vs) × (length us ≡ m)
+pub cut : (m : ℕ) (xs : List ℤ) → m ≤ length xs → (us : List ℤ) × (vs : List ℤ) × (xs ≡ us ++ vs) × (length us ≡ m)
 cut zero xs h = ([], xs, refl, refl)
 cut (suc m) [] h = absurd (omega arith)
 cut (suc m) (x ∷ xs) h = let r = cut m xs (omega (arith, h)) in (x ∷ r.0, r.1, ap (λ ys. x ∷ ys) r.2, ap suc r.3)
@@ -132,7 +123,7 @@ at_columns m k l n f w =
         let between : length (p ++ ks) ≡ m + k = length_append p ks ∙ ap (λ i. i + length ks) u ∙ ap (λ i. m + i) v in
         let back : values_of hs zs ≡ xs = segment_at zs (p ++ ks) xs ns c (m + k) l (is ∙ sym (append_assoc p ks (xs ++ ns))) (sym e) (sym between) (sym x) in
         let width : HaveColumns (length zs) (gs ++ hs) = subst (λ i. HaveColumns i (gs ++ hs)) (sym e) (append_columns c gs hs (from_width c 0 m) (from_width c (m + k) l)) in
-        let many : length (gs ++ hs) ≡ length f.coefs = forms_append gs hs ∙ ap (λ i. i + length hs) (from_long c 0 m) ∙ ap (λ i. m + i) (from_long c (m + k) l) ∙ sym w in
+        let many : length (gs ++ hs) ≡ length f.coefs = length_append gs hs ∙ ap (λ i. i + length hs) (from_long c 0 m) ∙ ap (λ i. m + i) (from_long c (m + k) l) ∙ sym w in
         let whole : length f.coefs ≡ length p + length xs = w ∙ ap (λ i. i + l) (sym u) ∙ ap (λ i. length p + i) (sym x) in
         ap (λ i. value (form_at i (gs ++ hs) f) zs) (sym e) ∙ at_value (gs ++ hs) f zs many width
         ∙ ap (value f) (values_append gs hs zs ∙ ap (λ ys. ys ++ values_of hs zs) front ∙ ap (λ ys. p ++ ys) back)

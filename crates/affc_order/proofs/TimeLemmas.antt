@@ -1,16 +1,13 @@
 -- Comparisons of times, and the values of their forms.
 use Rattle.std.proofs.Common.{◌≡◌, ℕ, zero, suc, ◌+◌, ℤ, pos, ◌+ℤ◌, ◌≤ℤ◌, Bool, true, false, IsTrue, cond, List, [], ◌∷◌, ◌++◌, length, map, Some, refl, sym, ap, subst, ◌∙◌, ◌⊎◌, inl, inr, arith, Ordering}
-use Rattle.std.specs.Prelude.{nat_lt, int_lt, slice_get, ◌==◌}
+use Rattle.std.specs.Prelude.{nat_lt, slice_get, ◌==◌}
 use Rattle.std.specs.declared.cmp.Ordering.TheVariants as ord
 use Rattle.std.specs.Ordering.{ordering_then, nat_cmp, int_cmp}
 use Rattle.std.specs.Cmp.{int_cmp_total, tied_itself}
 use Rattle.std.specs.Cmp.Lexicographic.{slice_cmp}
 use Rattle.std.specs.FinMap.{int_cmp-IsAntisymmetric}
-use Rattle.std.proofs.lemmas.Int.{ints}
 use Rattle.affc_rows.specs.Forms.{Affine, values_of, HaveColumns}
 use Rattle.affc_ast.specs.declared.tree.Instance.{Instance}
-use Rattle.affc_ast.specs.declared.tree.Param.{Param}
-use Rattle.affc_ast.specs.declared.tree.Param.TheVariants.{Number, Array}
 use Rattle.affc_ast.specs.declared.tree.Program.{Program}
 use Rattle.affc_ast.specs.Trace.{trace}
 use Rattle.affc_trace.specs.declared.schedule.Schedule.TheVariants.{Time}
@@ -20,33 +17,15 @@ use Rattle.affc_trace.specs.Law.{IsIn}
 use Rattle.affc_trace.specs.Target.{time_by, time_of, IsMapOf, IsScheduleOf, numbers_in, loops_round}
 use Rattle.affc_trace.proofs.Depths.{depth}
 use Rattle.affc_trace.proofs.Ordered.{map_of}
+use Rattle.affc_trace.proofs.Runs.{length_append}
 use Rattle.affc_domain.specs.Loops.{IsBefore}
-use Rattle.affc_domain.specs.Ranges.{number_ranges}
+use Rattle.affc_domain.proofs.ColumnLemmas.{append_columns, values_append, values_long}
+use Rattle.affc_domain.proofs.Lists.{int_less, less_int}
 use Rattle.affc_order.specs.Posed.{Posed, IsPosed, form_at}
 use Rattle.affc_order.specs.Systems.{forms_or_none}
-use Rattle.affc_order.proofs.ColumnLemmas.{append_columns, values_append, values_long, forms_append, at_values, from_width, from_long, segment}
+use Rattle.affc_order.proofs.ColumnLemmas.{at_values, from_width, from_long, segment}
 
 -- ---- Comparisons
-
-int_less : (x y : ℤ) → int_cmp x y ≡ ord.Less → (x +ℤ pos 1) ≤ℤ y
-int_less x y h = chosen (int_lt x y) refl h
-  where
-    below : (x y : ℤ) → int_lt x y ≡ true → (x +ℤ pos 1) ≤ℤ y
-    below x y e = grind (arith, ints)
-
-    other : (u : Bool) → cond u ord.Greater ord.Equal ≡ ord.Less → ⊥
-    other true h = cc
-    other false h = cc
-
-    chosen : (t : Bool) → int_lt x y ≡ t → cond t ord.Less (cond (int_lt y x) ord.Greater ord.Equal) ≡ ord.Less → (x +ℤ pos 1) ≤ℤ y
-    chosen true e h = below x y e
-    chosen false e h = absurd (other (int_lt y x) h)
-
-less_int : (x y : ℤ) → (x +ℤ pos 1) ≤ℤ y → int_cmp x y ≡ ord.Less
-less_int x y h = ap (λ t. cond t ord.Less (cond (int_lt y x) ord.Greater ord.Equal)) (below x y h)
-  where
-    below : (x y : ℤ) → (x +ℤ pos 1) ≤ℤ y → int_lt x y ≡ true
-    below x y e = grind (arith, ints)
 
 pub nat_less : (m n : ℕ) → nat_cmp m n ≡ ord.Less → IsTrue (nat_lt m n)
 nat_less m n h = chosen (nat_lt m n) h
@@ -90,11 +69,6 @@ before_less (suc n) (x ∷ xs) (y ∷ ys) r e f (inr q) =
 
 -- ---- Times
 
-pub numbers_are : (ps : List Param) → numbers_in ps ≡ length (number_ranges ps)
-numbers_are [] = refl
-numbers_are (Number name low high ∷ ps) = ap suc (numbers_are ps)
-numbers_are (Array decl ∷ ps) = numbers_are ps
-
 module _ (program : Program) (n : ℕ) (maps : List TimeMap) (p more : List ℤ) (fits : IsScheduleOf program (Time n maps)) (numbers : length p ≡ numbers_in program.params)
     (a : Posed) (i : Instance) (stands : IsIn i (trace program p)) (posed : IsPosed (p ++ more) a i) where
   abbrev zs : List ℤ
@@ -113,7 +87,7 @@ module _ (program : Program) (n : ℕ) (maps : List TimeMap) (p more : List ℤ)
 
   images_long : length images ≡ length p + length i.iterators
   images_long =
-      forms_append (columns_from (length zs) 0 (length p)) a.iterators
+      length_append (columns_from (length zs) 0 (length p)) a.iterators
       ∙ omega (arith, from_long (length zs) 0 (length p), values_long a.iterators zs, ap length posed.iterators)
 
   -- the forms of a time at the point, where this is the number of the instance's statement, and how many components it has

@@ -3,6 +3,7 @@ use Rattle.std.proofs.Common.{zero, suc, ◌≡◌, ℕ, List, [], ◌∷◌, �
 use Rattle.std.specs.Prelude.{slice_get}
 use Rattle.std.specs.List.{All}
 use Rattle.std.proofs.lemmas.List.Elements.{All-head, All-tail}
+use Rattle.std.proofs.lemmas.List.Concat.{flat_map-append}
 use Rattle.affc_rows.specs.Forms.{Affine}
 use Rattle.affc_system.specs.Systems.{Rows}
 use Rattle.affc_products.specs.Blocks.{AnyPast}
@@ -24,7 +25,7 @@ map_same : {A B : Type 0} (f g : A → B) → ((x : A) → f x ≡ g x) → (xs 
 map_same f g e [] = refl
 map_same f g e (x ∷ xs) = ap (λ y. y ∷ map f xs) (e x) ∙ ap (λ ys. g x ∷ ys) (map_same f g e xs)
 
-flat_same : {A B : Type 0} (f g : A → List B) → ((x : A) → f x ≡ g x) → (xs : List A) → flat_map f xs ≡ flat_map g xs
+pub flat_same : {A B : Type 0} (f g : A → List B) → ((x : A) → f x ≡ g x) → (xs : List A) → flat_map f xs ≡ flat_map g xs
 flat_same f g e [] = refl
 flat_same f g e (x ∷ xs) = ap (λ y. y ++ flat_map f xs) (e x) ∙ ap (λ ys. g x ++ ys) (flat_same f g e xs)
 
@@ -32,17 +33,13 @@ map_over : {A B : Type 0} (f : A → B) (xs ys : List A) → map f (xs ++ ys) �
 map_over f [] ys = refl
 map_over f (x ∷ xs) ys = ap (λ s. f x ∷ s) (map_over f xs ys)
 
-map_flat : {A B C : Type 0} (f : B → C) (g : A → List B) (xs : List A) → map f (flat_map g xs) ≡ flat_map (λ x. map f (g x)) xs
+pub map_flat : {A B C : Type 0} (f : B → C) (g : A → List B) (xs : List A) → map f (flat_map g xs) ≡ flat_map (λ x. map f (g x)) xs
 map_flat f g [] = refl
 map_flat f g (x ∷ xs) = map_over f (g x) (flat_map g xs) ∙ ap (λ ys. map f (g x) ++ ys) (map_flat f g xs)
 
-flat_over : {A B : Type 0} (f : A → List B) (xs ys : List A) → flat_map f (xs ++ ys) ≡ flat_map f xs ++ flat_map f ys
-flat_over f [] ys = refl
-flat_over f (x ∷ xs) ys = ap (λ s. f x ++ s) (flat_over f xs ys) ∙ sym (assoc (f x) (flat_map f xs) (flat_map f ys))
-
 flat_flat : {A B C : Type 0} (f : B → List C) (g : A → List B) (xs : List A) → flat_map f (flat_map g xs) ≡ flat_map (λ x. flat_map f (g x)) xs
 flat_flat f g [] = refl
-flat_flat f g (x ∷ xs) = flat_over f (g x) (flat_map g xs) ∙ ap (λ ys. flat_map f (g x) ++ ys) (flat_flat f g xs)
+flat_flat f g (x ∷ xs) = flat_map-append f (g x) (flat_map g xs) ∙ ap (λ ys. flat_map f (g x) ++ ys) (flat_flat f g xs)
 
 pub flat_after : {A B C : Type 0} (f : B → List C) (g : A → B) (xs : List A) → flat_map f (map g xs) ≡ flat_map (λ x. f (g x)) xs
 flat_after f g [] = refl

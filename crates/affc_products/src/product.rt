@@ -7,22 +7,10 @@ ghost use Rattle.affc_products.specs.Blocks.{product, block_questions, longest, 
 
 use crate::block::Block;
 use affc_rows::Form;
-use affc_system::fits_row;
+use affc_system::are_rows;
 use affc_system::system::{MOST_COLUMNS, MOST_ROWS};
 use sqlite_items::Items;
 use std::alloc::Global;
-
-/// Whether each of these is a row over so many columns.
-fn are_rows(columns: u32, rows: &[Form]) -> bool
-    ensures { IsTrue result ↔ All (IsRow columns) rows.now }
-{
-    match rows {
-        [] => true,
-        [row, rest @ ..] => {
-            row.coefs.len() == columns as usize && fits_row(row) && are_rows(columns, rest)
-        }
-    }
-}
 
 /// Whether each factor has an alternative.
 fn have_alternatives(factors: &[Items<Items<Form>>]) -> bool

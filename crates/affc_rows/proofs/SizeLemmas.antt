@@ -103,12 +103,6 @@ module _ (f : Affine) (gs : List Affine) (columns_few : (j : ℕ) → dot_magnit
 
 -- ---- Values
 
-pub value_abs : (f : Affine) (xs : List ℤ) → unsigned_abs (value f xs) ≤ magnitude f xs
-value_abs f xs =
-    let a = abs-add (dot f.coefs xs) f.constant in
-    let b = dot_abs f.coefs xs in
-    omega arith
-
 -- ---- Forms within limits
 
 below_raised : (a b : ℕ) → a ≤ b → (cs : List ℤ) → Below a cs → Below b cs

@@ -1,7 +1,6 @@
 -- What an instance touches are the elements of its assignment's accesses.
 use Rattle.std.proofs.Common.{◌≡◌, ℕ, zero, suc, ◌<◌, ℤ, List, [], ◌∷◌, ◌++◌, length, Option, Some, None, refl, sym, ap, subst, ◌∙◌, ◌⊎◌, inl, inr}
 use Rattle.std.specs.Prelude.{slice_get}
-use Rattle.std.proofs.lemmas.Option.{none-some, same_Some}
 use Rattle.affc_ast.specs.declared.tree.ArrayId.{ArrayId}
 use Rattle.affc_ast.specs.declared.tree.Instance.{Instance}
 use Rattle.affc_ast.specs.declared.tree.Ix.{Ix}
@@ -23,6 +22,7 @@ use Rattle.affc_domain.specs.Accesses.{Access, accesses_in, own_access, accesses
 use Rattle.affc_domain.specs.Arrays.{declared_arrays}
 use Rattle.affc_domain.proofs.PlainLemmas.{has_assignment}
 use Rattle.affc_domain.proofs.TurnLemmas.{instances_turn}
+use Rattle.affc_domain.proofs.Lists.{stands_in}
 use Rattle.affc_safe.specs.Laws.{WithoutTemporariesSafe}
 use Rattle.affc_safe.proofs.EndedSafe.{no_temporaries_are_written}
 
@@ -63,14 +63,9 @@ touches_are_accesses program p b x i t =
     let r = touched a.0.op a.0.array a.0.subs a.0.value names x here in
     record { assignment = a.0; its_assignment = a.1; access = r.0; is_access = r.1; is_element = r.2 }
 
-pub entry_in : {A : Type 0} (xs : List A) (n : ℕ) (a : A) → slice_get xs n ≡ Some a → IsIn a xs
-entry_in [] n a e = absurd (none-some a e)
-entry_in (x ∷ xs) zero a e = inl (sym (same_Some x a e))
-entry_in (x ∷ xs) (suc n) a e = inr (entry_in xs n a e)
-
 pub without_temporaries_safe : WithoutTemporariesSafe
 without_temporaries_safe program p none declared least within = no_temporaries_are_written program p none least within (λ b x i l bare.
     let r = touches_are_accesses program p b x i (inl l) in
-    let below : r.access.0.0 < length (declared_arrays program) = declared r.assignment r.access (entry_in (assignments program) b.statement r.assignment r.its_assignment) r.is_access in
+    let below : r.access.0.0 < length (declared_arrays program) = declared r.assignment r.access (stands_in (assignments program) b.statement r.assignment r.its_assignment) r.is_access in
     let all : declared_arrays program ≡ arrays_of program.params = ap (λ ds. arrays_of program.params ++ ds) none ∙ append_nil (arrays_of program.params) in
     subst (λ (y : Element). y.0 < length (arrays_of program.params)) (sym r.is_element) (subst (λ ds. r.access.0.0 < length ds) all below))

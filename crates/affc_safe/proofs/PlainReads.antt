@@ -1,5 +1,5 @@
 -- Small affine expressions are read in `int64_t` where the names keep near.
-use Rattle.std.proofs.Common.{◌≡◌, ℕ, zero, suc, ◌+◌, ◌*◌, ◌^◌, ◌<◌, ◌≤◌, ℤ, pos, negsuc, ◌+ℤ◌, ◌-ℤ◌, ◌*ℤ◌, ◌≤ℤ◌, neg_ℤ, Bool, true, false, ◌&&◌, IsTrue, List, [], ◌∷◌, ◌++◌, length, get_or, Result, Ok, refl, sym, ap, subst, ◌∙◌, arith}
+use Rattle.std.proofs.Common.{◌≡◌, ℕ, zero, suc, ◌+◌, ◌*◌, ◌^◌, ◌<◌, ◌≤◌, ℤ, pos, negsuc, ◌+ℤ◌, ◌-ℤ◌, ◌*ℤ◌, ◌≤ℤ◌, neg_ℤ, true, ◌&&◌, IsTrue, List, [], ◌∷◌, ◌++◌, length, get_or, Result, Ok, refl, sym, ap, subst, ◌∙◌, arith}
 use Rattle.std.specs.Prelude.{unsigned_abs, nat_le, nat_abs}
 use Rattle.std.proofs.lemmas.Bool.{leb-true, lt-ltb}
 use Rattle.std.proofs.lemmas.Int.{ints, unsigned_abs-mul}
@@ -22,8 +22,9 @@ use Rattle.affc_trace.proofs.Members.{both_hold}
 use Rattle.affc_trace.proofs.Runs.{length_append}
 use Rattle.affc_domain.specs.Affine.{linear, sees, is_small, are_small, form_of}
 use Rattle.affc_domain.specs.Ranges.{is_near}
-use Rattle.affc_domain.proofs.FormLemmas.{same_affine, value_of_form}
+use Rattle.affc_domain.proofs.FormLemmas.{same_affine, value_of_form, three}
 use Rattle.affc_domain.specs.Plain.{is_plain, all_plain, plain_tests, plain_value}
+use Rattle.affc_domain.proofs.Lists.{neg_size}
 use Rattle.affc_safe.specs.Overflow.{near_ranges, IsReadable, AreReadable, ReadsValue}
 use Rattle.affc_safe.proofs.Wants.{ReadableAll, int64_ok, bind_to}
 
@@ -103,17 +104,6 @@ value_near f xs s n l =
 pub small_is_int64 : (z : ℤ) → unsigned_abs z < 2 ^ 63 → is_int64 z ≡ true
 small_is_int64 (pos n) h = lt-ltb n (2 ^ 63) (omega (arith, ints))
 small_is_int64 (negsuc n) h = lt-ltb n (2 ^ 63) (omega (arith, ints))
-
-three : (a b d : Bool) → IsTrue (a && b && d) → IsTrue a × IsTrue b × IsTrue d
-three true true true h = (refl, refl, refl)
-three true true false h = absurd (cc)
-three true false d h = absurd (cc)
-three false b d h = absurd (cc)
-
-neg_size : (z : ℤ) → unsigned_abs (neg_ℤ z) ≡ unsigned_abs z
-neg_size (pos zero) = refl
-neg_size (pos (suc n)) = refl
-neg_size (negsuc n) = refl
 
 module _ (names : List ℤ) (near : Near names) where
   abbrev Affine_ : Ix → Type 0

@@ -1,17 +1,18 @@
 -- The steps by which ends are made.
 use Rattle.std.proofs.Common.{◌≡◌, ◌≢◌, ℕ, zero, suc, ◌+◌, ◌^◌, ◌≤◌, ℤ, pos, negsuc, neg_ℤ, List, [], ◌∷◌, ◌++◌, length, length-append, map, refl, sym, ap, subst, ◌∙◌, arith}
 use Rattle.std.specs.Prelude.{unsigned_abs}
-use Rattle.std.specs.List.{All}
 use Rattle.std.proofs.lemmas.List.{length-map, length-take-le}
-use Rattle.std.proofs.lemmas.List.Elements.{All-nil, All-cons, All-head, All-tail, All-take}
+use Rattle.std.proofs.lemmas.List.Elements.{All-take}
 use Rattle.affc_rows.specs.Forms.{Affine}
 use Rattle.affc_rows.specs.Vocabulary.{HasOpposite}
 use Rattle.affc_rows.proofs.VocabularyLemmas.{within_opposite}
 use Rattle.affc_ast.specs.declared.tree.Ix.{Ix}
 use Rattle.affc_ast.specs.declared.tree.Ix.TheVariants.{Min, Max, Floord, Ceild}
+use Rattle.affc_domain.proofs.Lists.{neg_size}
 use Rattle.affc_loops.specs.Ends.{rest_of, opposite, rounded_up, rounded_down, least_by, greatest_by, joined, lower_end, upper_end, both_ends}
 use Rattle.affc_loops.specs.Trees.{number}
 use Rattle.affc_loops.specs.terms.Sizes.{IsModest}
+use Rattle.affc_loopends.proofs.Asked.{negated_fits}
 use Rattle.affc_scan.specs.EndRows.{IsEndRow}
 
 -- ---- Rows without their last column
@@ -22,19 +23,8 @@ rest_row column row r = (
   length-take-le column row.coefs (let w : length row.coefs ≡ suc column = r.width in omega arith),
 )
 
-negated : (c : ℤ) → unsigned_abs (neg_ℤ c) ≡ unsigned_abs c
-negated (pos zero) = refl
-negated (pos (suc n)) = refl
-negated (negsuc n) = refl
-
-opposites : (cs : List ℤ) → All (λ c. unsigned_abs c ≤ 2 ^ 40) cs → All (λ c. unsigned_abs c ≤ 2 ^ 40) (map neg_ℤ cs)
-opposites [] h = All-nil (λ c. unsigned_abs c ≤ 2 ^ 40)
-opposites (c ∷ cs) h =
-    All-cons (λ c. unsigned_abs c ≤ 2 ^ 40) (neg_ℤ c) (map neg_ℤ cs) (subst (λ k. k ≤ 2 ^ 40) (sym (negated c)) (All-head (λ c. unsigned_abs c ≤ 2 ^ 40) c cs h))
-    (opposites cs (All-tail (λ c. unsigned_abs c ≤ 2 ^ 40) c cs h))
-
 pub opposite_modest : (f g : Affine) → g ≡ opposite f → IsModest f → IsModest g
-opposite_modest f g e m = subst IsModest (sym e) (record { coefs = opposites f.coefs m.coefs; constant = subst (λ k. k ≤ 2 ^ 59) (sym (negated f.constant)) m.constant })
+opposite_modest f g e m = subst IsModest (sym e) (record { coefs = negated_fits f.coefs m.coefs; constant = subst (λ k. k ≤ 2 ^ 59) (sym (neg_size f.constant)) m.constant })
 
 pub opposite_long : (f g : Affine) → g ≡ opposite f → length g.coefs ≡ length f.coefs
 opposite_long f g e = ap (λ (h : Affine). length h.coefs) e ∙ length-map f.coefs neg_ℤ

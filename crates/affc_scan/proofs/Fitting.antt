@@ -18,7 +18,8 @@ use Rattle.affc_trace.proofs.Runs.{length_append}
 use Rattle.affc_domain.specs.Ranges.{number_ranges}
 use Rattle.affc_domain.specs.Rounds.{rounds, loops_in}
 use Rattle.affc_domain.proofs.PlainLemmas.{rounds_are_plain, few_loops}
-use Rattle.affc_nest.proofs.QuestionLemmas.{stands_in}
+use Rattle.affc_domain.proofs.Lists.{stands_in}
+use Rattle.affc_domain.proofs.RangeLemmas.{numbers_are}
 use Rattle.affc_nest.specs.Sides.{IsSide, NearRanges}
 use Rattle.affc_loops.specs.Laws.{HasLoops, HaveSameLoops, AreTimeRanges}
 use Rattle.affc_loops.specs.Limits.{IsSlight, IsSmall}
@@ -26,7 +27,7 @@ use Rattle.affc_loops.specs.Loops.{Scheduled, boxes, scheduled, loop_names, time
 use Rattle.affc_loops.proofs.Boxes.{sits, near_box, params_ordered}
 use Rattle.affc_loops.proofs.Guards.{names_count}
 use Rattle.affc_loops.proofs.BetweenLaws.{few, slight, some_or_none}
-use Rattle.affc_loops.proofs.Scheduled.{is_scheduled_at, shape_of, numbers_are}
+use Rattle.affc_loops.proofs.Scheduled.{is_scheduled_at, shape_of}
 use Rattle.affc_loops.proofs.SameLoops.{boxes_same, scheduled_none, times_same}
 use Rattle.affc_loops.proofs.Sizes.{Within, map_within, near_within, params_within, ranges_within, spans, times_are}
 use Rattle.affc_loops.proofs.TimeRanges.{Spans}

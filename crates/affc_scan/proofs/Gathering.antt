@@ -83,7 +83,7 @@ module _ (nest : Nest) (ranges : List (ℤ × ℤ)) (first : ℕ) where
     are_bounds = (o.are_bounds, m.are_bounds);
     ends = m.ends ∙ ap (λ z. joined both_ends z (each_ends first nest.params (map scheduled_in ss) (all_sides m.bounds))) (e ∙ ap (both_ends made.ends) o.ends);
     loose = m.loose ∙ ap (λ z. z ++ all_loose (map scheduled_in ss) m.bounds) (l ∙ ap (λ z. made.loose.items ++ z) o.loose)
-        ∙ append_assoc made.loose.items (loose_from s.statement 0 o.bounds) (all_loose (map scheduled_in ss) m.bounds);
+        ∙ append_assoc made.loose.items (loose_from s.entry.statement 0 o.bounds) (all_loose (map scheduled_in ss) m.bounds);
   }
 
   pub none_at_all : (made : Gathered) → made.ends ≡ [] → made.loose.items ≡ [] → Gathers nest ranges first [] made

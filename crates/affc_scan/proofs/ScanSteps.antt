@@ -1,17 +1,12 @@
 -- The steps by which ranges and blocks of all statements are made.
-use Rattle.std.proofs.Common.{◌≡◌, ℕ, ◌-◌, ◌≤◌, ℤ, List, [], ◌∷◌, ◌++◌, map, length, take, drop, get_or, refl, sym, ap, ◌∙◌, arith}
+use Rattle.std.proofs.Common.{◌≡◌, ℕ, ◌≤◌, ℤ, List, [], ◌∷◌, ◌++◌, map, length, refl, sym, ap, ◌∙◌, arith}
 use Rattle.affc_ast.specs.declared.tree.Ix.{Ix}
 use Rattle.affc_ast.specs.declared.tree.Stmt.{Stmt}
-use Rattle.affc_nest.proofs.RowLemmas.{tail_is}
 use Rattle.affc_loops.specs.Between.{loops_between, body_between}
 use Rattle.affc_loops.specs.Loops.{block_of, times_of, time_ranges}
 use Rattle.affc_loops.specs.Spans.{hulls}
 use Rattle.affc_scan.specs.declared.alive.Alive.{Alive}
 use Rattle.affc_scan.specs.Alive.{as_scheduled}
-
--- a list by its first entry and the rest
-pub list_is : {A : Type 0} (xs : List A) (x : A) → 1 ≤ length xs → x ≡ get_or xs 0 x → xs ≡ x ∷ take (length xs - 1) (drop 1 xs)
-list_is xs x l e = tail_is xs x l ∙ ap (λ y. y ∷ take (length xs - 1) (drop 1 xs)) (sym e)
 
 hulls_then : (params : List (ℤ × ℤ)) (e : Alive) (rest : List Alive) → 1 ≤ length rest → hulls (times_of params (as_scheduled e)) (time_ranges params (map as_scheduled rest)) ≡ time_ranges params (map as_scheduled (e ∷ rest))
 hulls_then params e [] l = absurd (omega arith)

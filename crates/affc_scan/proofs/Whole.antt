@@ -1,6 +1,7 @@
 -- What is found by a walk is the program's.
 use Rattle.std.proofs.Common.{◌≡◌, ℕ, zero, suc, ◌+◌, ℤ, true, false, true≢false, List, [], ◌∷◌, ◌++◌, length, length-append, map, Some, None, refl, sym, ap, subst, ◌∙◌, inl, inr, arith}
 use Rattle.std.specs.Prelude.{slice_get, if◌then◌else◌}
+use Rattle.std.proofs.lemmas.Option.{slice_get_within}
 use Rattle.affc_ast.specs.declared.tree.Compare.{Compare}
 use Rattle.affc_ast.specs.declared.tree.Program.{Program}
 use Rattle.affc_ast.specs.declared.tree.Stmt.{Stmt}
@@ -16,18 +17,18 @@ use Rattle.affc_domain.specs.Ranges.{Ranges, Within, Never, Wide, ranges_of, num
 use Rattle.affc_domain.specs.Rounds.{Round, rounds, loops_in}
 use Rattle.affc_domain.proofs.CountLemmas.{numbers_of_each}
 use Rattle.affc_domain.proofs.PlainLemmas.{rounds_of_each, assignments_are_plain, few_loops}
+use Rattle.affc_domain.proofs.Lists.{place_of, there_is}
+use Rattle.affc_domain.proofs.RangeLemmas.{numbers_are}
 use Rattle.affc_nest.specs.declared.nest.Nest.{Nest}
 use Rattle.affc_nest.specs.Laws.{HasNest}
 use Rattle.affc_nest.specs.Nests.{is_alive, ranges_in, entries_of, nest_of}
 use Rattle.affc_nest.specs.Sites.{Place, all_around, all_assigned, places_of}
 use Rattle.affc_nest.proofs.PlaceLemmas.{rounds_walked, assignments_walked}
-use Rattle.affc_nest.proofs.QuestionLemmas.{place_of, there_is, below_length}
 use Rattle.affc_loops.specs.Between.{body_between, program_between}
 use Rattle.affc_loops.specs.Ends.{each_ends, all_ends, ends_of}
 use Rattle.affc_loops.specs.Laws.{HaveSameLoops}
 use Rattle.affc_loops.specs.Loops.{Scheduled, box_in, boxes, scheduled_from, scheduled, time_ranges}
 use Rattle.affc_loops.proofs.Boxes.{is_wide, none_wide}
-use Rattle.affc_loops.proofs.Scheduled.{numbers_are}
 use Rattle.affc_loops.proofs.SameLoops.{boxes_same}
 use Rattle.affc_loopends.specs.declared.bounds.Bounds.{Bounds}
 use Rattle.affc_loopends.specs.Sizes.{IsTimed}
@@ -40,11 +41,11 @@ use Rattle.affc_scan.specs.declared.alive.Alive.{Alive}
 use Rattle.affc_scan.specs.Gathered.{IsProjectable, AllProjectable, AreBoundsOf, AreBoundsOfAll, Gathers}
 use Rattle.affc_scan.specs.Laws.{IsNestFor, OwnNest}
 use Rattle.affc_scan.specs.Alive.{numbered, as_scheduled}
-use Rattle.affc_scan.specs.Numbered.{box_of, Numbered, scheduled_in, numbered_from, HasSpans, AllPrintable, AllSpan}
+use Rattle.affc_scan.specs.Numbered.{box_of, Numbered, scheduled_in, numbered_in, HasSpans, AllPrintable, AllSpan}
 use Rattle.affc_scan.proofs.SightProofs.{assignment_sight}
 use Rattle.affc_scan.proofs.Fitting.{fits_one, all_printable, all_span, ranges_ordered, ranges_long}
-use Rattle.affc_scan.proofs.Numbers.{IsNumbered, is_numbered, long, is_timed, its_system}
-use Rattle.affc_scan.proofs.AliveSteps.{all_numbered, walk_scheduled}
+use Rattle.affc_scan.proofs.Numbers.{IsNumbered, is_numbered, nest_stands, long, is_timed, its_system}
+use Rattle.affc_scan.proofs.AliveSteps.{Stand, all_numbered, whole_from, walk_scheduled}
 
 -- ---- Boxes
 
@@ -83,7 +84,7 @@ timed_by params context rs ranges m = record { params = params; context = contex
 -- ---- The whole
 
 module _ (program : Program) (nest : Nest) (n : ℕ) (maps : List TimeMap) (found : List Place) (ps : List Alive) (is : IsNestFor program nest (Time n maps))
-    (walked : found ≡ places_of program) (statements : map numbered ps ≡ numbered_from 0 found nest.entries maps) where
+    (walked : found ≡ places_of program) (statements : map numbered ps ≡ numbered_in found maps nest.entries) where
   abbrev own : List (ℤ × ℤ)
   own = number_ranges is.source.params
 
@@ -105,14 +106,17 @@ module _ (program : Program) (nest : Nest) (n : ℕ) (maps : List TimeMap) (foun
   params_are : nest.params ≡ number_ranges program.params
   params_are = own_params ∙ sym loops.same_ranges
 
-  numbered_are : ss ≡ numbered_from 0 (places_of program) nest.entries maps
-  numbered_are = statements ∙ ap (λ q. numbered_from 0 q nest.entries maps) walked
+  numbered_are : ss ≡ numbered_in (places_of program) maps nest.entries
+  numbered_are = statements ∙ ap (λ q. numbered_in q maps nest.entries) walked
+
+  has : HasNest is.source
+  has = record { plain = is.has_loops.plain; near = is.has_loops.near }
 
   same_in : map scheduled_in ss ≡ scheduled program maps
   same_in =
-      let boxed = nest_boxes is.source program nest (record { plain = is.has_loops.plain; near = is.has_loops.near }) loops is.its_nest in
+      let boxed = nest_boxes is.source program nest has loops is.its_nest in
       ap (map scheduled_in) numbered_are
-      ∙ walk_scheduled 0 (places_of program) nest.entries maps
+      ∙ walk_scheduled (places_of program) maps 0 (places_of program) maps nest.entries (whole_from (places_of program)) (whole_from maps) (subst (λ (q : Nest). Stand 0 q.entries) (sym is.its_nest) (nest_stands is.source has))
       ∙ ap (λ rss. scheduled_from 0 rss (all_assigned (places_of program)) maps (map box_of nest.entries)) (rounds_walked program)
       ∙ ap (λ as'. scheduled_from 0 (rounds program) as' maps (map box_of nest.entries)) (assignments_walked program)
       ∙ ap (λ bs. scheduled_from 0 (rounds program) (assignments program) maps bs) boxed
@@ -144,8 +148,9 @@ module _ (program : Program) (nest : Nest) (n : ℕ) (maps : List TimeMap) (foun
   around : all_around (places_of program) ≡ rounds is.source
   around = rounds_walked program ∙ loops.same_rounds
 
-  numbered_here : (s : Numbered) → IsIn s ss → IsNumbered 0 (places_of program) (nest_of is.source).entries maps s
-  numbered_here s i = is_numbered 0 (places_of program) (nest_of is.source).entries maps s (subst (IsIn s) (numbered_are ∙ ap (λ (q : Nest). numbered_from 0 (places_of program) q.entries maps) is.its_nest) i)
+  numbered_here : (s : Numbered) → IsIn s ss → IsNumbered (places_of program) (nest_of is.source).entries maps s
+  numbered_here s i =
+      is_numbered (places_of program) (nest_of is.source).entries maps s (nest_stands is.source has) (subst (IsIn s) (numbered_are ∙ ap (λ (q : Nest). numbered_in (places_of program) maps q.entries) is.its_nest) i)
 
   projects_one : (s : Numbered) → IsIn s ss → IsProjectable nest (nest.params ++ times) s
   projects_one s i =
@@ -240,7 +245,7 @@ own_nest source nest schedule h e = record {
   in_sight = λ a i.
       let k = place_of (assignments source) a i in
       let long = rounds_of_each source in
-      let below = below_length (assignments source) k.0 a k.1 in
+      let below = slice_get_within (assignments source) k.0 a k.1 in
       let rs = there_is (rounds source) k.0 (omega (arith, long, below)) in
       let there = assignments_are_plain source h.plain k.0 rs.0 a rs.1 k.1 in
       let loops = few_loops (length (number_ranges source.params)) 0 0 rs.0 (omega arith) there.0 in

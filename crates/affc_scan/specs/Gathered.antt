@@ -37,7 +37,7 @@ pub record GathersOne (nest : Nest) (ranges : List (ℤ × ℤ)) (first : ℕ) (
   pub bounds : List Bounds
   pub are_bounds : AreBoundsOf nest ranges s bounds
   pub ends : made.ends ≡ ends_from first first (map sides_of bounds) (times_of nest.params (scheduled_in s))
-  pub loose : made.loose.items ≡ loose_from s.statement 0 bounds
+  pub loose : made.loose.items ≡ loose_from s.entry.statement 0 bounds
 
 -- of statements behind those before
 pub record GathersMore (nest : Nest) (ranges : List (ℤ × ℤ)) (first : ℕ) (ss : List Numbered) (before made : Gathered) : Type 0 where

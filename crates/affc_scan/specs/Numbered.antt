@@ -1,5 +1,5 @@
--- The statements that can have instances, as a walk over assignments, entries and times comes to them.
-use Rattle.std.specs.Prelude.{ℕ, suc, ◌≤◌, ℤ, if◌then◌else◌, List, [], ◌∷◌, ◌++◌, Option, Some, None, length}
+-- The parts that can have instances, as a walk over the entries of a nest comes to them.
+use Rattle.std.specs.Prelude.{ℕ, ◌≤◌, ℤ, if◌then◌else◌, List, [], ◌∷◌, ◌++◌, Option, Some, None, length, slice_get}
 use Rattle.std.specs.List.{All}
 use Rattle.affc_system.specs.Boxes.{IsBox}
 use Rattle.affc_trace.specs.declared.schedule.TimeMap.{TimeMap}
@@ -12,24 +12,24 @@ use Rattle.affc_scan.specs.Blocks.{scheduled_of, IsPrintable}
 abbrev pub box_of : Entry → Option (List (ℤ × ℤ))
 box_of e = (if e.alive then Some e.ranges else None)
 
--- a statement with its number: its assignment and what stands round that, its entry of the nest, and its times
+-- an entry of the nest, with the assignment of its statement and what stands round that, and with the statement's times
 pub record Numbered : Type 0 where
-  pub statement : ℕ
   pub place : Place
   pub entry : Entry
   pub times : TimeMap
 
 abbrev pub scheduled_in : Numbered → Scheduled
-scheduled_in s = scheduled_of s.statement s.place s.times s.entry.ranges
+scheduled_in s = scheduled_of s.entry.statement s.place s.times s.entry.ranges
 
--- the statement, if it can have instances
-abbrev pub if_alive : (statement : ℕ) → Place → Entry → TimeMap → List Numbered
-if_alive statement p e m = (if e.alive then record { statement = statement; place = p; entry = e; times = m } ∷ [] else [])
+-- the entry, if it can have instances, where its statement has this place and these times
+abbrev pub if_alive : Option Place → Entry → Option TimeMap → List Numbered
+if_alive (Some p) e (Some m) = (if e.alive then record { place = p; entry = e; times = m } ∷ [] else [])
+if_alive _ e _ = []
 
--- those of these statements that can have instances, numbered from k on
-abbrev pub numbered_from : (k : ℕ) → List Place → List Entry → List TimeMap → List Numbered
-numbered_from k (p ∷ ps) (e ∷ es) (m ∷ ms) = if_alive k p e m ++ numbered_from (suc k) ps es ms
-numbered_from k _ _ _ = []
+-- those of these entries that can have instances, each with the place and the times of its statement among these
+abbrev pub numbered_in : List Place → List TimeMap → List Entry → List Numbered
+numbered_in ps ms [] = []
+numbered_in ps ms (e ∷ es) = if_alive (slice_get ps e.statement) e (slice_get ms e.statement) ++ numbered_in ps ms es
 
 -- sizes within which the ranges of times are found
 pub record HasSpans (params : List (ℤ × ℤ)) (e : Scheduled) : Type 0 where

@@ -1,87 +1,72 @@
-//! The statements that can have instances, with their times.
-ghost use Rattle.std.specs.Prelude.{◌≡◌, ◌++◌, map, OnOk, IfOk};
-ghost use Rattle.affc_nest.specs.Sites.{place, places};
-ghost use Rattle.affc_scan.specs.Numbered.{if_alive, numbered_from};
+//! The parts that can have instances, with their times.
+ghost use Rattle.std.specs.Prelude.{◌≡◌, ◌++◌, map, slice_get, OnOk, IfOk};
+ghost use Rattle.affc_nest.specs.Sites.{places};
+ghost use Rattle.affc_scan.specs.Numbered.{if_alive, numbered_in};
 ghost use Rattle.affc_scan.specs.Alive.{numbered};
 
 use affc_nest::{Entry, Site};
 use affc_trace::TimeMap;
 use std::alloc::{AllocError, Global};
 
-/// A statement that can have instances.
+/// A part that can have instances, with the site and the times of its statement.
 #[derive(Clone, Copy, Drop)]
 pub(crate) struct Alive<'a, 's> {
-    /// Its number, in the order of the text from 0.
-    pub statement: u32,
     pub site: &'a Site<'s>,
     pub entry: &'a Entry,
     pub times: &'a TimeMap,
 }
 
-/// Adds a statement if it can have instances.
-#[tactic(auto, using(crate::proofs::AliveSteps::alive_added, crate::proofs::AliveSteps::dead_left))]
+/// Adds an entry if it can have instances.
+#[tactic(auto, using(crate::proofs::AliveSteps::dead_left, crate::proofs::AliveSteps::site_missing, crate::proofs::AliveSteps::times_missing, crate::proofs::AliveSteps::part_added))]
 fn add_if_alive<'a, 's>(
-    statement: u32,
-    site: &'a Site<'s>,
+    sites: &'a [Site<'s>],
     entry: &'a Entry,
-    times: &'a TimeMap,
+    maps: &'a [TimeMap],
     out: &mut Vec<Alive<'a, 's>>,
 ) -> Result<(), AllocError>
-    ensures { OnOk result (map numbered out.new.items ≡ map numbered out.old.items ++ if_alive statement (place site.now) entry.now times.now) }
+    ensures { OnOk result (map numbered out.new.items ≡ map numbered out.old.items ++ if_alive (slice_get (places sites.now) entry.now.statement) entry.now (slice_get maps.now entry.now.statement)) }
 {
     if !entry.alive {
         return Ok(());
     }
-    let alive = Alive {
-        statement,
-        site,
-        entry,
-        times,
+    let Some(site) = sites.get(entry.statement as usize) else {
+        return Ok(());
     };
-    out.push(alive)?;
+    let Some(times) = maps.get(entry.statement as usize) else {
+        return Ok(());
+    };
+    out.push(Alive { site, entry, times })?;
     Ok(())
 }
 
-/// Adds those of these statements that can have instances, of which the first has this number.
-#[tactic(auto, using(crate::proofs::AliveSteps::no_site, crate::proofs::AliveSteps::no_entry, crate::proofs::AliveSteps::no_times))]
+/// Adds those of these entries that can have instances.
 fn add_alive<'a, 's>(
-    first: u32,
     sites: &'a [Site<'s>],
     entries: &'a [Entry],
     maps: &'a [TimeMap],
     out: &mut Vec<Alive<'a, 's>>,
 ) -> Result<(), AllocError>
-    ensures { OnOk result (map numbered out.new.items ≡ map numbered out.old.items ++ numbered_from first (places sites.now) entries.now maps.now) }
+    ensures { OnOk result (map numbered out.new.items ≡ map numbered out.old.items ++ numbered_in (places sites.now) maps.now entries.now) }
 {
-    match sites {
+    match entries {
         [] => Ok(()),
-        [site, sites @ ..] => match entries {
-            [] => Ok(()),
-            [entry, entries @ ..] => match maps {
-                [] => Ok(()),
-                [times, maps @ ..] => {
-                    add_if_alive(first, site, entry, times, out)?;
-                    // More statements than numbers don't fit into memory.
-                    let Some(next) = first.checked_add(1) else {
-                        return Err(AllocError);
-                    };
-                    add_alive(next, sites, entries, maps, out)
-                }
-            },
-        },
+        [entry, rest @ ..] => {
+            add_if_alive(sites, entry, maps, out)?;
+            add_alive(sites, rest, maps, out)
+        }
     }
 }
 
-/// Those of these statements that can have instances.
+/// Those of these entries that can have instances.
 pub(crate) fn all_alive<'a, 's>(
     alloc: Global,
     sites: &'a [Site<'s>],
     entries: &'a [Entry],
     maps: &'a [TimeMap],
 ) -> Result<Vec<Alive<'a, 's>>, AllocError>
-    ensures { IfOk result (λ v. map numbered v.items ≡ numbered_from 0 (places sites.now) entries.now maps.now) }
+    ensures { IfOk result (λ v. map numbered v.items ≡ numbered_in (places sites.now) maps.now entries.now) }
 {
     let mut out = Vec::new(alloc);
-    add_alive(0, sites, entries, maps, &mut out)?;
+    add_alive(sites, entries, maps, &mut out)?;
     Ok(out)
 }

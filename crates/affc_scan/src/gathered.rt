@@ -94,7 +94,7 @@ fn gather_one(
     let bounds = statement_ends(alloc, nest, alive.entry, alive.times, ranges)?;
     let ends = own_ends(alloc, first, &nest.params, alive, bounds.as_slice())?;
     let mut loose = Vec::new(alloc);
-    add_loose(alive.statement, Items::from_vec(bounds), &mut loose)?;
+    add_loose(alive.entry.statement, Items::from_vec(bounds), &mut loose)?;
     Ok(Gathered { ends, loose })
 }
 

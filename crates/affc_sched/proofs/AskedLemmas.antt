@@ -1,5 +1,5 @@
 -- Which questions are asked.
-use Rattle.std.proofs.Common.{◌≡◌, ℕ, Bool, true, false, IsTrue, if◌then◌else◌, List, [], ◌∷◌, map, flat_map, refl, sym, ap, subst, ◌∙◌, inl, inr}
+use Rattle.std.proofs.Common.{◌≡◌, ℕ, IsTrue, List, [], ◌∷◌, map, flat_map, refl, sym, ap, subst, ◌∙◌, inl, inr}
 use Rattle.std.specs.List.{All}
 use Rattle.affc_system.specs.Systems.{Rows}
 use Rattle.affc_trace.specs.declared.schedule.Schedule.{Schedule}
@@ -8,6 +8,7 @@ use Rattle.affc_trace.specs.declared.schedule.TimeMap.{TimeMap}
 use Rattle.affc_trace.specs.Law.{IsIn}
 use Rattle.affc_trace.proofs.Members.{in_map, to_map, to_flat_map}
 use Rattle.affc_trace.proofs.Once.{in_flat_map}
+use Rattle.affc_domain.proofs.Lists.{in_if, to_if}
 use Rattle.affc_nest.specs.declared.nest.Entry.{Entry}
 use Rattle.affc_nest.specs.declared.nest.Nest.{Nest}
 use Rattle.affc_order.specs.Systems.{source_systems, turned_systems}
@@ -37,14 +38,6 @@ pub record Asked (nest : Nest) (schedule : Schedule) (q : Question) : Type 0 whe
   pub later : Rows
   pub later_in : IsIn later (turned_systems nest first.part second.part schedule)
   pub is : q ≡ question nest first second (pair_rows nest first second from_touch.0 to_touch.0) earlier later
-
-in_if : {A : Type 0} (t : Bool) (xs : List A) (a : A) → IsIn a (if t then xs else []) → IsTrue t × IsIn a xs
-in_if true xs a i = (refl, i)
-in_if false xs a i = absurd i
-
-to_if : {A : Type 0} (t : Bool) (xs : List A) (a : A) → IsTrue t → IsIn a xs → IsIn a (if t then xs else [])
-to_if true xs a t i = i
-to_if false xs a t i = absurd (cc)
 
 -- ---- Pairs
 

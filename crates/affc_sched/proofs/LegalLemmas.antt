@@ -28,8 +28,9 @@ use Rattle.affc_trace.proofs.Once.{once}
 use Rattle.affc_trace.proofs.Runs.{length_append}
 use Rattle.affc_trace.proofs.Targets.{target_is_reordered}
 use Rattle.affc_domain.specs.Ranges.{number_ranges}
-use Rattle.affc_domain.proofs.Lists.{length_map}
-use Rattle.affc_domain.proofs.RangeLemmas.{box_length, in_ranges}
+use Rattle.affc_domain.proofs.Lists.{length_map, place_of, stands_in}
+use Rattle.affc_domain.proofs.RangeLemmas.{box_length, in_ranges, box_append}
+use Rattle.affc_domain.proofs.ColumnLemmas.{no_columns, more_columns}
 use Rattle.affc_nest.specs.declared.nest.Access.{Access}
 use Rattle.affc_nest.specs.declared.nest.Entry.{Entry}
 use Rattle.affc_nest.specs.declared.nest.Nest.{Nest}
@@ -39,10 +40,9 @@ use Rattle.affc_nest.specs.Parts.{statement_or_none, statement_of}
 use Rattle.affc_nest.specs.Questions.{extents_or_none}
 use Rattle.affc_nest.proofs.AccessLemmas.{accesses_are_events}
 use Rattle.affc_nest.proofs.EntryLemmas.{entries_stand, points_are_instances, none_where_not_alive, ranges_hold_iterators}
-use Rattle.affc_nest.proofs.QuestionLemmas.{place_of, stands_in, as_many}
+use Rattle.affc_nest.proofs.QuestionLemmas.{as_many}
 use Rattle.affc_nest.proofs.QuestionProofs.{sub_side, nests_are_asked}
 use Rattle.affc_order.specs.Systems.{loops_or_none, loops_of, coordinates_of, pair_columns, source_systems, turned_systems, first_posed, second_posed}
-use Rattle.affc_order.proofs.ColumnLemmas.{no_columns, more_columns}
 use Rattle.affc_order.proofs.LexLemmas.{both_met, met_both}
 use Rattle.affc_order.proofs.OrderLemmas.{entry_of_instance, as_many_loops, pair_width, order_columns, systems_are_the_orders}
 use Rattle.affc_sched.specs.Laws.{parameters_at, first_at, second_at, PointsViolate, Answers, ViolationsArePoints, QuestionsDecide, PointsAreBoxed}
@@ -465,12 +465,6 @@ questions_decide program (Time components maps) has named fits = (
 )
 
 -- ---- Ranges
-
-pub box_append : (rs ss : List (ℤ × ℤ)) (us vs : List ℤ) → InBox rs us → InBox ss vs → InBox (rs ++ ss) (us ++ vs)
-box_append [] ss [] vs h g = g
-box_append [] ss (u ∷ us) vs h g = absurd h
-box_append (r ∷ rs) ss [] vs h g = absurd h
-box_append (r ∷ rs) ss (u ∷ us) vs h g = (h.0, h.1, box_append rs ss us vs h.2 g)
 
 pub points_are_boxed : PointsAreBoxed
 points_are_boxed program Source q point has named fits i is = absurd i

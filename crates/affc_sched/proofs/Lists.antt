@@ -1,18 +1,11 @@
--- Lists by their fronts, and what holds of each of a list.
-use Rattle.std.proofs.Common.{◌≡◌, ◌-◌, ◌≤◌, List, [], ◌∷◌, length, take, drop, get_or, refl, sym, ap, subst, ◌∙◌, inl, inr}
+-- What holds of each of a list.
+use Rattle.std.proofs.Common.{◌≡◌, List, [], ◌∷◌, refl, sym, subst, inl, inr}
 use Rattle.std.specs.List.{All}
 use Rattle.std.proofs.lemmas.List.Elements.{All-nil, All-cons}
 use Rattle.affc_trace.specs.Law.{IsIn}
 use Rattle.affc_nest.specs.declared.nest.Entry.{Entry}
 use Rattle.affc_nest.specs.declared.nest.Nest.{Nest}
-use Rattle.affc_nest.proofs.RowLemmas.{tail_is}
 use Rattle.affc_sched.specs.Touched.{Each}
-
--- ---- Lists
-
--- a list by its front
-pub front_is : {A : Type 0} (xs : List A) (x : A) → 1 ≤ length xs → x ≡ get_or xs 0 x → xs ≡ x ∷ take (length xs - 1) (drop 1 xs)
-front_is xs x h e = tail_is xs x h ∙ ap (λ y. y ∷ take (length xs - 1) (drop 1 xs)) (sym e)
 
 -- ---- Each of a list
 

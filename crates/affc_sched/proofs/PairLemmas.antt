@@ -68,14 +68,6 @@ stands_in nest n e i =
 pub is_counted : (nest : Nest) (schedule : Schedule) → IsAsked nest schedule → (e : Entry) → IsIn e nest.entries → e.part < length nest.entries
 is_counted nest schedule q e i = (stands_in nest (is_nest nest schedule q.scheduled) e i).counted
 
--- the order of two parts by what their entries say
-pub ordered_as : (nest : Nest) → IsNest nest → (columns : ℕ) (a b : Entry) → IsIn a nest.entries → IsIn b nest.entries → (fs gs : List Affine)
-    → source_order nest columns (record { part = a.part; iterators = fs }) (record { part = b.part; iterators = gs }) ≡ lex_systems columns (shared a.loops b.loops) fs gs [] (nat_lt a.statement b.statement)
-ordered_as nest n columns a b i j fs gs =
-    let first = stands_in nest n a i in
-    let second = stands_in nest n b j in
-    λ k. lex_systems columns (shared (first.loops k) (second.loops k)) fs gs [] (nat_lt (first.statement k) (second.statement k))
-
 pub columns_of_pair : (nest : Nest) → IsNest nest → (a b : Entry) → IsIn a nest.entries → IsIn b nest.entries → (length nest.params + length a.loops) + length b.loops ≡ pair_columns nest a.part b.part
 columns_of_pair nest n a b i j =
     ap (λ ls. (length nest.params + length ls) + length b.loops) (sym (stands_in nest n a i).loops)

@@ -7,9 +7,9 @@ use Rattle.affc_rows.specs.Forms.{Affine, value, values_of, HaveColumns}
 use Rattle.affc_rows.proofs.SizeLemmas.{spread_width}
 use Rattle.affc_system.specs.Systems.{Meets}
 use Rattle.affc_ast.specs.declared.tree.Rel.TheVariants.{Equal}
+use Rattle.affc_domain.proofs.ColumnLemmas.{no_columns, more_columns, first_columns, later_columns, cons_is}
 use Rattle.affc_nest.specs.Domains.{compare_rows}
 use Rattle.affc_order.specs.Spread.{spread}
-use Rattle.affc_order.proofs.ColumnLemmas.{no_columns, more_columns, first_columns, later_columns, cons_is}
 use Rattle.affc_order.proofs.LexLemmas.{both_met, met_both, equal_met, met_equal}
 use Rattle.affc_order.proofs.SpreadLemmas.{spread_value}
 use Rattle.affc_sched.specs.Questions.{equal_rows}

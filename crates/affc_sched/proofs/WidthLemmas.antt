@@ -4,10 +4,8 @@ use Rattle.std.proofs.Math.Seq.{take-append_seam}
 use Rattle.std.specs.List.{All}
 use Rattle.std.proofs.lemmas.List.Elements.{All-append}
 use Rattle.affc_rows.specs.Forms.{Affine, HaveColumns}
-use Rattle.affc_rows.proofs.ValueLemmas.{length-mixed}
 use Rattle.affc_system.specs.Systems.{Rows, Meets}
 use Rattle.affc_ast.specs.declared.tree.Compare.{Compare}
-use Rattle.affc_ast.specs.declared.tree.Ix.{Ix}
 use Rattle.affc_ast.specs.declared.tree.Program.{Program}
 use Rattle.affc_ast.specs.declared.tree.Rel.{Rel}
 use Rattle.affc_ast.specs.declared.tree.Rel.TheVariants.{Less, LessEqual, Greater, GreaterEqual, Equal}
@@ -16,72 +14,16 @@ use Rattle.affc_trace.proofs.EndedReads.{append_assoc}
 use Rattle.affc_trace.proofs.Runs.{length_append}
 use Rattle.affc_domain.specs.Affine.{form_of}
 use Rattle.affc_domain.specs.Ranges.{number_ranges}
-use Rattle.affc_domain.specs.Rounds.{Round, Loop, Test, loops_in}
-use Rattle.affc_domain.proofs.FormLemmas.{form_width, unit_width, number_width}
-use Rattle.affc_nest.specs.Domains.{gap_row, compare_rows, test_rows, column_form, number_form, range_rows, box_rows, bounds_of, loop_rows, condition_rows, domain_rows}
+use Rattle.affc_domain.specs.Rounds.{loops_in}
+use Rattle.affc_nest.specs.Domains.{compare_rows, test_rows, box_rows, loop_rows, condition_rows, domain_rows}
 use Rattle.affc_nest.specs.declared.nest.Entry.{Entry}
 use Rattle.affc_nest.specs.Laws.{HasNest, IsEntry}
 use Rattle.affc_nest.specs.Nests.{nest_of}
 use Rattle.affc_nest.proofs.DomainLemmas.{Met, to_all}
 use Rattle.affc_nest.proofs.EntryLemmas.{site_of, ranges_there, domain_is, loops_are}
 use Rattle.affc_nest.proofs.PointLemmas.{context_met}
-use Rattle.affc_order.proofs.ColumnLemmas.{no_columns, more_columns, append_columns}
+use Rattle.affc_nest.proofs.WidthLemmas.{rows_wide}
 use Rattle.affc_sched.specs.Questions.{context_count}
-
--- ---- Widths
-
-gap_wide : (n k : ℕ) (a b : Affine) → length a.coefs ≡ n → length b.coefs ≡ n → length (gap_row a b k).coefs ≡ n
-gap_wide n k a b u v = length-mixed (pos 1) b.coefs (negsuc 0) a.coefs (v ∙ sym u) ∙ v
-
-one_wide : (n k : ℕ) (a b : Affine) → length a.coefs ≡ n → length b.coefs ≡ n → HaveColumns n (gap_row a b k ∷ [])
-one_wide n k a b u v = more_columns n (gap_row a b k) [] (gap_wide n k a b u v) (no_columns n)
-
-pub compare_wide : (n : ℕ) (rel : Rel) (a b : Affine) → length a.coefs ≡ n → length b.coefs ≡ n → HaveColumns n (compare_rows rel a b)
-compare_wide n Less a b u v = one_wide n 1 a b u v
-compare_wide n LessEqual a b u v = one_wide n 0 a b u v
-compare_wide n Greater a b u v = one_wide n 1 b a v u
-compare_wide n GreaterEqual a b u v = one_wide n 0 b a v u
-compare_wide n Equal a b u v = more_columns n (gap_row b a 0) (gap_row a b 0 ∷ []) (gap_wide n 0 b a v u) (one_wide n 0 a b u v)
-
-tests_wide : (names more : ℕ) (cs : List Compare) → HaveColumns (names + more) (test_rows names more cs)
-tests_wide names more [] = no_columns (names + more)
-tests_wide names more (c ∷ cs) =
-    append_columns (names + more) (compare_rows c.rel (form_of names more c.left) (form_of names more c.right)) (test_rows names more cs)
-    (compare_wide (names + more) c.rel (form_of names more c.left) (form_of names more c.right) (form_width names more c.left) (form_width names more c.right)) (tests_wide names more cs)
-
-range_wide : (n j : ℕ) (r : ℤ × ℤ) → HaveColumns n (range_rows n j r)
-range_wide n j r =
-    more_columns n (gap_row (number_form n r.0) (column_form n j) 0) (gap_row (column_form n j) (number_form n r.1) 0 ∷ []) (gap_wide n 0 (number_form n r.0) (column_form n j) (number_width n r.0) (unit_width n j))
-    (one_wide n 0 (column_form n j) (number_form n r.1) (unit_width n j) (number_width n r.1))
-
-box_wide : (n j : ℕ) (rs : List (ℤ × ℤ)) → HaveColumns n (box_rows n j rs)
-box_wide n j [] = no_columns n
-box_wide n j (r ∷ rs) = append_columns n (range_rows n j r) (box_rows n (suc j) rs) (range_wide n j r) (box_wide n (suc j) rs)
-
-bounds_wide : (names : ℕ) (low : Ix) (rel : Rel) (high : Ix) (more : ℕ) → HaveColumns (names + more) (bounds_of names low rel high more)
-bounds_wide names low rel high more =
-    let n = names + more in
-    more_columns n (gap_row (form_of names more low) (column_form n names) 0) (compare_rows rel (column_form n names) (form_of names more high))
-    (gap_wide n 0 (form_of names more low) (column_form n names) (form_width names more low) (unit_width n names))
-    (compare_wide n rel (column_form n names) (form_of names more high) (unit_width n names) (form_width names more high))
-
-one_in : (m n : ℕ) → suc m + n ≡ m + suc n
-one_in m n = omega arith
-
-loops_wide : (names : ℕ) (boxes : List (ℤ × ℤ)) (rs : List Round) → HaveColumns (names + loops_in rs) (loop_rows names boxes rs)
-loops_wide names boxes [] = no_columns (names + 0)
-loops_wide names [] (Loop iter low rel high ∷ rs) = no_columns (names + suc (loops_in rs))
-loops_wide names (r ∷ boxes) (Loop iter low rel high ∷ rs) =
-    let n = names + suc (loops_in rs) in
-    append_columns n (bounds_of names low rel high (suc (loops_in rs))) (range_rows n names r ++ loop_rows (suc names) boxes rs) (bounds_wide names low rel high (suc (loops_in rs)))
-    (append_columns n (range_rows n names r) (loop_rows (suc names) boxes rs) (range_wide n names r) (subst (λ k. HaveColumns k (loop_rows (suc names) boxes rs)) (one_in names (loops_in rs)) (loops_wide (suc names) boxes rs)))
-loops_wide names [] (Test conds ∷ rs) = loops_wide names [] rs
-loops_wide names (r ∷ boxes) (Test conds ∷ rs) = loops_wide names (r ∷ boxes) rs
-
-conditions_wide : (names : ℕ) (rs : List Round) → HaveColumns (names + loops_in rs) (condition_rows names rs)
-conditions_wide names [] = no_columns (names + 0)
-conditions_wide names (Loop iter low rel high ∷ rs) = subst (λ k. HaveColumns k (condition_rows (suc names) rs)) (one_in names (loops_in rs)) (conditions_wide (suc names) rs)
-conditions_wide names (Test conds ∷ rs) = append_columns (names + loops_in rs) (test_rows names (loops_in rs) conds) (condition_rows names rs) (tests_wide names (loops_in rs) conds) (conditions_wide names rs)
 
 -- ---- Counts
 
@@ -119,11 +61,7 @@ module _ (program : Program) (has : HasNest program) (statement : ℕ) (e : Entr
       let n = loops_in s.its_rounds in
       let rows : List Affine = domain_rows ps program.context w.0 s.its_rounds in
       let d : e.domain.rows ≡ rows = ap (λ r. r.rows) (domain_is program statement e s w.0 w.1) in
-      let wide : HaveColumns (m + n) rows =
-      append_columns (m + n) (box_rows (m + n) 0 ps) (test_rows m n program.context ++ (loop_rows m w.0 s.its_rounds ++ condition_rows m s.its_rounds)) (box_wide (m + n) 0 ps)
-      (append_columns (m + n) (test_rows m n program.context) (loop_rows m w.0 s.its_rounds ++ condition_rows m s.its_rounds) (tests_wide m n program.context)
-      (append_columns (m + n) (loop_rows m w.0 s.its_rounds) (condition_rows m s.its_rounds) (loops_wide m w.0 s.its_rounds) (conditions_wide m s.its_rounds))) in
-      subst (λ k. HaveColumns (m + k) e.domain.rows) (sym (loops_are program statement e s)) (subst (HaveColumns (m + n)) (sym d) wide)
+      subst (λ k. HaveColumns (m + k) e.domain.rows) (sym (loops_are program statement e s)) (subst (HaveColumns (m + n)) (sym d) (rows_wide ps program.context w.0 s.its_rounds))
 
   -- the first rows of a domain are those of the parameters and of the context, and are met where p is in the context
   pub context_rows_met : (p its : List ℤ) → IsInContext program p → length its ≡ length e.loops → All (Meets (p ++ its)) (take (context_count (nest_of program)) e.domain.rows)

@@ -7,13 +7,14 @@ use Rattle.std.proofs.lemmas.Int.{ints, unsigned_abs-mul}
 use Rattle.std.proofs.Math.Nat.{mul-le-mul_left, mul_comm}
 use Rattle.affc_rows.specs.Forms.{Affine, dot, value, mixed, mixed_form}
 use Rattle.affc_system.specs.Pairs.{IsSubscript}
+use Rattle.affc_domain.proofs.FormLemmas.{dot_zeros}
 use Rattle.affc_conflicts.specs.differences.Differences.{apart, IsSmall, IsApart}
 use Rattle.affc_rows.proofs.FormLemmas.{sum_step}
 use Rattle.affc_rows.proofs.IntLemmas.{abs-add, one-mul}
 use Rattle.affc_rows.proofs.ValueLemmas.{value-mixed, length-mixed}
 
 -- the magnitude of a multiple
-times : (n : ℕ) (c d : ℤ) (b : ℕ) → unsigned_abs c ≤ n → unsigned_abs d ≤ b → unsigned_abs c * unsigned_abs d ≤ n * b
+pub times : (n : ℕ) (c d : ℤ) (b : ℕ) → unsigned_abs c ≤ n → unsigned_abs d ≤ b → unsigned_abs c * unsigned_abs d ≤ n * b
 times n c d b h k =
     let p : unsigned_abs c * unsigned_abs d ≤ unsigned_abs c * b = mul-le-mul_left (unsigned_abs c) k in
     let q : b * unsigned_abs c ≤ b * n = mul-le-mul_left b h in
@@ -68,13 +69,8 @@ apart_step i cs xs ys x y z new old whole h k l a b n w =
     n ∙ ap (λ u. old +ℤ (c *ℤ (value u z -ℤ value y z))) a ∙ ap (λ u. old +ℤ (c *ℤ (value (get_or xs i x) z -ℤ value u z))) b in
     sum_step new old _ _ _ whole e (apart-drop i cs xs ys x y z h k l) w
 
-pub dot-zeros : (n : ℕ) (xs : List ℤ) → dot (replicate n (pos 0)) xs ≡ pos 0
-dot-zeros zero xs = refl
-dot-zeros (suc n) [] = refl
-dot-zeros (suc n) (x ∷ xs) = omega (arith, ints, dot-zeros n xs)
-
 pub zero_value : (n : ℕ) (cs : List ℤ) (z : List ℤ) → cs ≡ replicate n (pos 0) → value (record { coefs = cs; constant = pos 0 }) z ≡ pos 0
-zero_value n cs z e = ap (λ v. dot v z +ℤ pos 0) e ∙ ap (λ v. v +ℤ pos 0) (dot-zeros n z)
+zero_value n cs z e = ap (λ v. dot v z +ℤ pos 0) e ∙ ap (λ v. v +ℤ pos 0) (dot_zeros n z)
 
 -- ---- the two mixtures
 

@@ -11,12 +11,12 @@ use Rattle.affc_trace.specs.Law.{IsIn}
 use Rattle.affc_trace.specs.Target.{numbers_in}
 use Rattle.affc_domain.specs.Ranges.{number_ranges}
 use Rattle.affc_domain.specs.Rounds.{Round, rounds}
+use Rattle.affc_domain.proofs.RangeLemmas.{numbers_are}
 use Rattle.affc_loops.specs.Between.{program_between}
 use Rattle.affc_loops.specs.Ends.{ends_of}
 use Rattle.affc_loops.specs.Laws.{HasLoops}
 use Rattle.affc_loops.specs.Loops.{Scheduled, boxes, scheduled, scheduled_from, time_ranges}
 use Rattle.affc_loops.proofs.BetweenLaws.{few}
-use Rattle.affc_loops.proofs.Scheduled.{numbers_are}
 use Rattle.affc_loopends.specs.declared.bounds.Bounds.{Bounds}
 use Rattle.affc_loopends.specs.declared.bounds.Bounds.TheVariants.{Between, Loose as Without}
 use Rattle.affc_loopends.specs.TimeRows.{system_of}

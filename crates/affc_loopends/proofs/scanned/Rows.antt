@@ -19,13 +19,14 @@ use Rattle.affc_trace.specs.Laws.{IsInContext}
 use Rattle.affc_trace.specs.Target.{numbers_in, time_of, IsMapOf}
 use Rattle.affc_domain.specs.Ranges.{Within, number_ranges, ranges_of}
 use Rattle.affc_domain.specs.Rounds.{rounds, loops_in}
+use Rattle.affc_domain.proofs.RangeLemmas.{numbers_are}
 use Rattle.affc_loops.specs.Ends.{IsRow, BoundsBelow, BoundsAbove, AreSides, AreSidesFrom, HoldFrom, AreRowsOf, AreRowsOfEach, last_of}
 use Rattle.affc_loops.specs.Laws.{HasLoops}
 use Rattle.affc_loops.specs.Loops.{Scheduled, boxes, scheduled, time_ranges}
 use Rattle.affc_loops.proofs.BetweenLaws.{its_own, numbers, some_or_none}
 use Rattle.affc_loops.proofs.Boxes.{sits}
 use Rattle.affc_loops.proofs.Guards.{names_count}
-use Rattle.affc_loops.proofs.Scheduled.{is_scheduled_at, shape_of, numbers_are}
+use Rattle.affc_loops.proofs.Scheduled.{is_scheduled_at, shape_of}
 use Rattle.affc_loopends.specs.declared.bounds.Bounds.{Bounds}
 use Rattle.affc_loopends.specs.declared.bounds.Bounds.TheVariants.{Between, Loose as Without}
 use Rattle.affc_loopends.specs.Ends.{IsProjectedRow}

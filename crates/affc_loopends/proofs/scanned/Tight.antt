@@ -5,11 +5,11 @@ use Rattle.affc_trace.specs.declared.schedule.Schedule.TheVariants.{Time}
 use Rattle.affc_trace.specs.declared.schedule.TimeMap.{TimeMap}
 use Rattle.affc_trace.specs.Law.{IsIn}
 use Rattle.affc_trace.specs.Laws.{IsInContext}
+use Rattle.affc_domain.proofs.RangeLemmas.{numbers_are}
 use Rattle.affc_loops.specs.Between.{IsTurn}
 use Rattle.affc_loops.specs.Ends.{Sides, MeetAlong, ends_of}
 use Rattle.affc_loops.specs.Laws.{HasLoops}
 use Rattle.affc_loops.specs.Loops.{Scheduled, scheduled}
-use Rattle.affc_loops.proofs.Scheduled.{numbers_are}
 use Rattle.affc_loops.proofs.RowLaws.{turns_meet_rows, ends_same}
 use Rattle.affc_loopends.specs.declared.bounds.Bounds.{Bounds}
 use Rattle.affc_loopends.specs.declared.bounds.Bounds.TheVariants.{Between, Loose as Without}

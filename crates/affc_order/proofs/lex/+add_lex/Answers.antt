@@ -2,10 +2,10 @@ use Rattle.std.proofs.Common.{List, ◌-◌, ◌++◌, length, map, take, drop, 
 use Rattle.std.proofs.lemmas.Result.{on_ok_weaker}
 use Rattle.std.proofs.lemmas.List.Elements.{All-take, All-drop}
 use Rattle.affc_rows.specs.Forms.{Affine}
+use Rattle.affc_domain.proofs.Lists.{first_and_rest}
 use Rattle.affc_nest.specs.Wide.{IsWide}
 use Rattle.affc_order.specs.Systems.{lex_systems, rows_in}
 use Rattle.affc_order.proofs.CodeLemmas.{lex_made}
-use Rattle.affc_order.proofs.ListLemmas.{first_and_rest}
 use Rattle.affc_order.proofs.lex.+add_lex.Goals as goal
 
 pub returns-then-n-eq0 : goal.returns-then-n-eq0

@@ -6,7 +6,7 @@ use Rattle.affc_nest.specs.Sites.{Place, places, places_of}
 use Rattle.affc_scan.specs.declared.gathered.Gathered.{Gathered}
 use Rattle.affc_scan.specs.declared.alive.Alive.{Alive}
 use Rattle.affc_scan.specs.Alive.{numbered}
-use Rattle.affc_scan.specs.Numbered.{numbered_from}
+use Rattle.affc_scan.specs.Numbered.{numbered_in}
 use Rattle.affc_scan.proofs.Whole.{printable_there, spans_there, ordered_there, projects_there, between_there}
 use Rattle.affc_scan.proofs.target.scan_times.Goals as goal
 
@@ -19,8 +19,8 @@ projected-requires-clause-spans c =
     let ps : List Alive = c.as_slice-statements.result.now in
     let walked : found ≡ places_of program = ap places c.as_slice.ensures.value ∙ c.in_ok-sites.ensures in
     let entries : c.as_slice-entries.result.now ≡ nest.entries = first_of (cc, search rules, search (rules, c.as_slice-entries.ensures), cc (c.as_slice-entries.ensures)) in
-    let statements : map numbered ps ≡ numbered_from 0 found nest.entries maps =
-    ap (map numbered) c.as_slice-statements.ensures.value ∙ c.in_ok-found.ensures ∙ ap (λ es. numbered_from 0 found es maps) entries in
+    let statements : map numbered ps ≡ numbered_in found maps nest.entries =
+    ap (map numbered) c.as_slice-statements.ensures.value ∙ c.in_ok-found.ensures ∙ ap (λ es. numbered_in found maps es) entries in
     spans_there program nest c.args.length maps found ps c.requires.nest walked statements
 
 pub projected-requires-clause-ordered : goal.projected-requires-clause-ordered
@@ -32,8 +32,8 @@ projected-requires-clause-ordered c =
     let ps : List Alive = c.as_slice-statements.result.now in
     let walked : found ≡ places_of program = ap places c.as_slice.ensures.value ∙ c.in_ok-sites.ensures in
     let entries : c.as_slice-entries.result.now ≡ nest.entries = first_of (cc, search rules, search (rules, c.as_slice-entries.ensures), cc (c.as_slice-entries.ensures)) in
-    let statements : map numbered ps ≡ numbered_from 0 found nest.entries maps =
-    ap (map numbered) c.as_slice-statements.ensures.value ∙ c.in_ok-found.ensures ∙ ap (λ es. numbered_from 0 found es maps) entries in
+    let statements : map numbered ps ≡ numbered_in found maps nest.entries =
+    ap (map numbered) c.as_slice-statements.ensures.value ∙ c.in_ok-found.ensures ∙ ap (λ es. numbered_in found maps es) entries in
     ordered_there program nest c.args.length maps found ps c.requires.nest walked statements
 
 pub projected-requires-clause-statements : goal.projected-requires-clause-statements
@@ -45,8 +45,8 @@ projected-requires-clause-statements c =
     let ps : List Alive = c.as_slice-statements.result.now in
     let walked : found ≡ places_of program = ap places c.as_slice.ensures.value ∙ c.in_ok-sites.ensures in
     let entries : c.as_slice-entries.result.now ≡ nest.entries = first_of (cc, search rules, search (rules, c.as_slice-entries.ensures), cc (c.as_slice-entries.ensures)) in
-    let statements : map numbered ps ≡ numbered_from 0 found nest.entries maps =
-    ap (map numbered) c.as_slice-statements.ensures.value ∙ c.in_ok-found.ensures ∙ ap (λ es. numbered_from 0 found es maps) entries in
+    let statements : map numbered ps ≡ numbered_in found maps nest.entries =
+    ap (map numbered) c.as_slice-statements.ensures.value ∙ c.in_ok-found.ensures ∙ ap (λ es. numbered_in found maps es) entries in
     projects_there program nest c.args.length maps found ps c.requires.nest walked statements
 
 pub body-requires-clause-printable : goal.body-requires-clause-printable
@@ -58,8 +58,8 @@ body-requires-clause-printable c =
     let ps : List Alive = c.as_slice-statements.result.now in
     let walked : found ≡ places_of program = ap places c.as_slice.ensures.value ∙ c.in_ok-sites.ensures in
     let entries : c.as_slice-entries.result.now ≡ nest.entries = first_of (cc, search rules, search (rules, c.as_slice-entries.ensures), cc (c.as_slice-entries.ensures)) in
-    let statements : map numbered ps ≡ numbered_from 0 found nest.entries maps =
-    ap (map numbered) c.as_slice-statements.ensures.value ∙ c.in_ok-found.ensures ∙ ap (λ es. numbered_from 0 found es maps) entries in
+    let statements : map numbered ps ≡ numbered_in found maps nest.entries =
+    ap (map numbered) c.as_slice-statements.ensures.value ∙ c.in_ok-found.ensures ∙ ap (λ es. numbered_in found maps es) entries in
     let first : length c.ranges-2.result.now ≡ length nest.params = ap length c.ranges-2.ensures.ranges in
     printable_there program nest c.args.length maps found ps c.requires.nest walked statements (length c.ranges-2.result.now) first
 
@@ -72,8 +72,8 @@ returns c =
     let ps : List Alive = c.as_slice-statements.result.now in
     let walked : found ≡ places_of program = ap places c.as_slice.ensures.value ∙ c.in_ok-sites.ensures in
     let entries : c.as_slice-entries.result.now ≡ nest.entries = first_of (cc, search rules, search (rules, c.as_slice-entries.ensures), cc (c.as_slice-entries.ensures)) in
-    let statements : map numbered ps ≡ numbered_from 0 found nest.entries maps =
-    ap (map numbered) c.as_slice-statements.ensures.value ∙ c.in_ok-found.ensures ∙ ap (λ es. numbered_from 0 found es maps) entries in
+    let statements : map numbered ps ≡ numbered_in found maps nest.entries =
+    ap (map numbered) c.as_slice-statements.ensures.value ∙ c.in_ok-found.ensures ∙ ap (λ es. numbered_in found maps es) entries in
     let first : length c.ranges-2.result.now ≡ length nest.params = ap length c.ranges-2.ensures.ranges in
     let made : Gathered = c.in_ok-ends.field-0 in
     between_there program nest c.args.length maps found ps c.requires.nest walked statements (length c.ranges-2.result.now) made first c.in_ok-ends.ensures.all

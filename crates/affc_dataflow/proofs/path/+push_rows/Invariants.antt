@@ -1,5 +1,5 @@
 use Rattle.std.proofs.Common.{length}
-use Rattle.affc_flow.proofs.questions.+push_rows.Given as goal
+use Rattle.affc_dataflow.proofs.path.+push_rows.Given as goal
 
 abbrev pub decreases-push_rows : goal.decreases-push_rows
 decreases-push_rows l = length l.rows.now
