@@ -1,5 +1,5 @@
 //! A folder and a sink that have no memory.
-use affc_io::{Folder, ReadFault, Sink, SinkFault, WriteFault};
+use affc_io::{Folder, ReadFault, ReadLog, Sink, SinkFault, WriteFault};
 use std::alloc::Global;
 
 #[derive(Drop)]
@@ -27,14 +27,14 @@ impl Sink for ShortSink {
 #[derive(Drop)]
 pub struct ShortFolder {
     shortages: u64,
-    reads: u64,
+    log: ReadLog,
 }
 
 impl ShortFolder {
     pub fn new() -> ShortFolder {
         ShortFolder {
             shortages: 0,
-            reads: 0,
+            log: ReadLog::new(),
         }
     }
 }
@@ -42,12 +42,13 @@ impl ShortFolder {
 impl Folder for ShortFolder {
     ghost use Rattle.std.specs.Prelude.{Some, None};
 
-    ghost state = { λ f. record { held = Some (λ _. None); faults = 0; shortages = f.shortages; reads = f.reads } };
+    ghost state = { λ f. record { held = Some (λ _. None); faults = 0; shortages = f.shortages; reads = f.log.reads } };
 
-    fn read(&mut self, _alloc: Global, _name: &str) -> Result<Vec<u8>, ReadFault> {
-        self.reads = self.reads.saturating_add(1);
+    fn read(&mut self, _alloc: Global, name: &str) -> Result<Vec<u8>, ReadFault> {
         self.shortages = self.shortages.saturating_add(1);
-        Err(ReadFault::Memory)
+        let answer = Err(ReadFault::Memory);
+        self.log.note(name, &answer);
+        answer
     }
 
     fn write(&mut self, _name: &str, _bytes: &[u8]) -> Result<(), WriteFault> {

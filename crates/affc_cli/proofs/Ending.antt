@@ -1,5 +1,5 @@
 -- How a command ends, from what it made and what became of that at the folder and the two sinks.
-use Rattle.std.proofs.Common.{◌≡◌, ◌≢◌, ◌≤◌, ◌⊎◌, ℕ, List, [], Option, None, Some, MatchOption, Result, Ok, Err, IfOk, IfErr, OnOk, Contains, refl, ap, sym, subst, ◌∙◌, inl, inr, arith, lit<}
+use Rattle.std.proofs.Common.{◌≡◌, ◌≢◌, ◌≤◌, ◌⊎◌, ℕ, List, [], ◌∷◌, Option, None, Some, MatchOption, Result, Ok, Err, IfOk, IfErr, Contains, refl, ap, sym, subst, ◌∙◌, inl, inr, arith, lit<}
 use Rattle.std.specs.Option.{is_some}
 use Rattle.std.proofs.lemmas.Option.{none-some}
 use Rattle.affc_io.specs.Count.{Rose}
@@ -10,17 +10,18 @@ use Rattle.affc_io.specs.Taken.{grown}
 use Rattle.affc_words.specs.declared.words.Settings.{Settings}
 use Rattle.affc_words.specs.Command.{Command, Fold, Replay, Run, Flow, Big, command_of}
 use Rattle.affc_cli.specs.Big.{SumsUp, BigCause}
-use Rattle.affc_cli.specs.Outside.{Outside, outside, NamesStay, Keeps, KeepsBut, IsRead, IsReadAtMost}
+use Rattle.affc_cli.specs.Outside.{Outside, outside, NamesStay, Keeps, KeepsBut, IsReadInOrder}
 use Rattle.affc_lines.specs.Told.{Told, IsTold}
-use Rattle.affc_cli.specs.Promise.{FoldPromises, ReplayPromises, RunPromises, FlowPromises, BigPromises, Promises, Cause, written_file, files_of, statuses_of, refusal_line, Makes, IsFiled, FiledInPart, WrittenInPart, ReportedInPart, Runs, IsSaid, WordsRefused, Serves}
+use Rattle.affc_cli.specs.Promise.{FoldPromises, ReplayPromises, RunPromises, FlowPromises, BigPromises, Promises, Cause, written_file, names_of, statuses_of, refusal_line, Makes, IsFiled, FiledInPart, WrittenInPart, ReportedInPart, Runs, IsSaid, WordsRefused, Serves}
 use Rattle.affc_lines.specs.Lines.{status_of, line_of}
 use Rattle.affc_cli.specs.Refusal.{FoldCause, fold_file, FlowCause, RunCause, file_of, ReplayCause, replay_file}
-use Rattle.affc_cli.specs.Telling.{Reports, Puts, IsPut, IsPutShort, IsPutFailed, IsRefusal, Ends, EndsFiled, EndsWith, HasRead}
+use Rattle.affc_cli.specs.Telling.{Reports, Puts, IsPut, IsPutShort, IsPutFailed, IsRefusal, Ends, EndsFiled, EndsWith}
 use Rattle.affc_cli.specs.declared.pieces.Pieces.{Pieces}
 use Rattle.affc_lines.specs.declared.refusal.Operand.TheVariants as operand
 use Rattle.affc_lines.specs.declared.refusal.Refusal.{Refusal}
 use Rattle.affc_lines.specs.declared.refusal.Refusal.TheVariants.{Words, Unread, Source, Printed, Schedule, Meaning, Stuck, Illegal, Budget, Memory, Certificate, Check, Steps, Data}
 use Rattle.affc_lines.proofs.Telling.{rose_later}
+use Rattle.affc_cli.proofs.Reading.{nothing_read, none_in_order}
 
 -- ---- Statuses and lines
 
@@ -86,16 +87,13 @@ short_line (Run source feed limit) = refl
 short_line (Flow source) = refl
 short_line (Big stages) = refl
 
-memory_cause : (command : Command) (before now : FolderState) → Cause command Memory before now
-memory_cause (Fold source schedule settings file) before now = tt
-memory_cause (Replay source schedule certificate) before now = tt
-memory_cause (Run source feed limit) before now = tt
-memory_cause (Flow source) before now = tt
-memory_cause (Big stages) before now = tt
-
 -- want of memory in place of a refusal
-memory_reads : (command : Command) (before now : FolderState) → IsReadAtMost (files_of command) before now → HasRead command Memory before now
-memory_reads command before now few = record { exact = λ other. absurd (other refl); few = few }
+memory_cause : (command : Command) (refusal : Refusal) (before now : FolderState) → Cause command refusal before now → Cause command Memory before now
+memory_cause (Fold source schedule settings file) refusal before now cause = tt
+memory_cause (Replay source schedule certificate) refusal before now cause = tt
+memory_cause (Run source feed limit) refusal before now cause = tt
+memory_cause (Flow source) refusal before now cause = tt
+memory_cause (Big stages) refusal before now cause = (cause.0, tt)
 
 ends_with_0 : (command : Command) → Contains (statuses_of command) 0
 ends_with_0 (Fold source schedule settings file) = (0, lit< tt, refl)
@@ -160,8 +158,8 @@ ends_with (Big stages) (Schedule line) before now cause = (3, lit< tt, refl)
 ends_with (Big stages) (Meaning line) before now cause = (2, lit< tt, refl)
 ends_with (Big stages) (Illegal line) before now cause = (4, lit< tt, refl)
 ends_with (Big stages) Memory before now cause = (5, lit< tt, refl)
-ends_with (Big stages) Budget before now cause = absurd (none-some cause.most cause.limited)
-ends_with (Big stages) _ before now cause = absurd cause
+ends_with (Big stages) Budget before now cause = absurd (none-some cause.1.most cause.1.limited)
+ends_with (Big stages) _ before now cause = absurd cause.1
 
 -- ---- Names that stay
 
@@ -205,7 +203,7 @@ keeps_any file before now keeps = record {
 -- ---- Refused
 
 refused_runs : (command : Command) (refusal : Refusal) (before now : Outside) (status : ℕ) → status ≡ status_of refusal
-    → Cause command refusal before.folder now.folder → HasRead command refusal before.folder now.folder → now.folder.held ≡ before.folder.held → now.out.taken ≡ before.out.taken
+    → Cause command refusal before.folder now.folder → IsReadInOrder (names_of command) before.folder now.folder → now.folder.held ≡ before.folder.held → now.out.taken ≡ before.out.taken
     → Told before.err.taken before.err now.err (refusal_line command refusal) → Keeps (written_file command) before now
     → Runs command before now status
 refused_runs command refusal before now status is cause reads names out told keeps = record {
@@ -213,7 +211,7 @@ refused_runs command refusal before now status is cause reads names out told kee
   keeps = keeps;
   done = λ e. absurd (not_zero refusal (sym is ∙ e));
   short = λ e. inl (record {
-    reads = reads.few;
+    reads = reads;
     names = names;
     out = out;
     told = subst (Told before.err.taken before.err now.err) (ap (refusal_line command) (is_memory refusal (sym is ∙ e)) ∙ short_line command) told;
@@ -223,7 +221,6 @@ refused_runs command refusal before now status is cause reads names out told kee
     refusal = refusal;
     is_status = is;
     cause = cause;
-    reads = reads.exact (λ e. other (is ∙ ap status_of e));
     names = names;
     out = out;
     told = told;
@@ -232,7 +229,7 @@ refused_runs command refusal before now status is cause reads names out told kee
 
 -- the refusal was told, or want of memory in its place
 told_runs : (command : Command) (refusal : Refusal) (name : List ℕ) (before now : Outside) (status : ℕ)
-    → Cause command refusal before.folder now.folder → HasRead command refusal before.folder now.folder → line_of refusal name ≡ refusal_line command refusal
+    → Cause command refusal before.folder now.folder → IsReadInOrder (names_of command) before.folder now.folder → line_of refusal name ≡ refusal_line command refusal
     → now.folder.held ≡ before.folder.held → now.out.taken ≡ before.out.taken → IsTold refusal name before.err now.err status → Keeps (written_file command) before now → Runs command before now status
 told_runs command refusal name before now status cause reads line names out told keeps = of told.is
   where
@@ -241,7 +238,7 @@ told_runs command refusal name before now status cause reads line names out told
         refused_runs command refusal before now status (told.is_status ∙ ap status_of e) cause reads names out
         (subst (Told before.err.taken before.err now.err) (ap (λ r. line_of r name) e ∙ line) told.told) keeps
     of (inr e) =
-        refused_runs command Memory before now status (told.is_status ∙ ap status_of e) (memory_cause command before.folder now.folder) (memory_reads command before.folder now.folder reads.few) names out
+        refused_runs command Memory before now status (told.is_status ∙ ap status_of e) (memory_cause command refusal before.folder now.folder cause) reads names out
         (subst (Told before.err.taken before.err now.err) (ap (λ r. line_of r name) e ∙ memory_line command name) told.told) keeps
 
 -- ---- Written
@@ -360,10 +357,52 @@ module _ (command : Command) (before now : Outside) (status : ℕ) (makes : Make
 
 -- ---- All of it
 
--- what a command's refusal needs: its cause, how often the folder was read, and the line of the file that is meant
+-- what a command's refusal needs: its cause, the order of its reads, and the line of the file that is meant
 abbrev IsCaused : Command → (name : List ℕ) → (before now : FolderState) → Refusal → Type 0
 IsCaused command name before now refusal =
-    Cause command refusal before now × HasRead command refusal before now × (line_of refusal name ≡ refusal_line command refusal)
+    Cause command refusal before now × IsReadInOrder (names_of command) before now × (line_of refusal name ≡ refusal_line command refusal)
+
+-- what is promised of what was read holds of the folder later, where nothing was read since
+still_promised : (command : Command) (before mid now : FolderState) (certificate text report : List ℕ) → now.reads ≡ mid.reads → Promises command before mid certificate text report → Promises command before now certificate text report
+still_promised (Fold source schedule settings file) before mid now certificate text report same p = record {
+  texts = record {
+    source_text = p.texts.source_text;
+    source_held = p.texts.source_held;
+    schedule_text = p.texts.schedule_text;
+    schedule_held = p.texts.schedule_held;
+    reads = same ∙ p.texts.reads;
+  };
+  makes = p.makes;
+}
+still_promised (Replay source schedule shown) before mid now certificate text report same p = record {
+  texts = record {
+    source_text = p.texts.source_text;
+    source_held = p.texts.source_held;
+    schedule_text = p.texts.schedule_text;
+    schedule_held = p.texts.schedule_held;
+    certificate_text = p.texts.certificate_text;
+    certificate_held = p.texts.certificate_held;
+    reads = same ∙ p.texts.reads;
+  };
+  replays_to = p.replays_to;
+}
+still_promised (Run source feed limit) before mid now certificate text report same p = record {
+  texts = record {
+    source_text = p.texts.source_text;
+    source_held = p.texts.source_held;
+    feed_text = p.texts.feed_text;
+    feed_held = p.texts.feed_held;
+    reads = same ∙ p.texts.reads;
+  };
+  runs_to = p.runs_to;
+  no_report = p.no_report;
+}
+still_promised (Flow source) before mid now certificate text report same p = record {
+  texts = record { source_text = p.texts.source_text; source_held = p.texts.source_held; reads = same ∙ p.texts.reads };
+  flows_to = p.flows_to;
+  no_report = p.no_report;
+}
+still_promised (Big stages) before mid now certificate text report same p = record { reads = same ∙ p.reads; sums_up = p.sums_up; no_report = p.no_report }
 
 -- `mid` is the folder once its files were read
 module _ (command : Command) (name : List ℕ) (before : Outside) (mid : FolderState) (now : Outside) (status : ℕ) where
@@ -373,167 +412,144 @@ module _ (command : Command) (name : List ℕ) (before : Outside) (mid : FolderS
       let all : IsCaused command name before.folder now.folder refusal = subst (λ f. IsCaused command name before.folder f refusal) (sym still) caused in
       told_runs command refusal name before now status all.0 all.1 all.2 (ap (λ (f : FolderState). f.held) still ∙ same) told.untouched told.told keeps
 
-  abbrev makes_of : (file : Option (List ℕ)) → (m : Pieces) → Promises command before.folder.held m.certificate.items m.text.items m.report.items
-      → IsRead (files_of command) before.folder mid → KeepsBut file mid now.folder → Makes command before now
-  makes_of file m promised read but = record {
+  abbrev makes_of : (file : Option (List ℕ)) → (m : Pieces) → Promises command before.folder mid m.certificate.items m.text.items m.report.items
+      → KeepsBut file mid now.folder → Makes command before now
+  makes_of file m promised but = record {
     certificate = m.certificate.items;
     text = m.text.items;
     report = m.report.items;
-    promised = promised;
-    reads = but.reads ∙ read;
+    promised = still_promised command before.folder mid now.folder m.certificate.items m.text.items m.report.items but.reads promised;
   }
 
-  made_runs : (file : Option (List ℕ)) → written_file command ≡ file → (m : Pieces) → Promises command before.folder.held m.certificate.items m.text.items m.report.items
-      → IsRead (files_of command) before.folder mid → FolderKeeps before.folder mid → KeepsBut file mid now.folder
+  made_runs : (file : Option (List ℕ)) → written_file command ≡ file → (m : Pieces) → Promises command before.folder mid m.certificate.items m.text.items m.report.items
+      → FolderKeeps before.folder mid → KeepsBut file mid now.folder
       → EndsWith file (Ok m) name mid now.folder before.out now.out before.err now.err status → Keeps (written_file command) before now → Runs command before now status
-  made_runs file is m promised read kept but ends keeps = of file is but ends
+  made_runs file is m promised kept but ends keeps = of file is but ends
     where
       of : (file : Option (List ℕ)) → written_file command ≡ file → KeepsBut file mid now.folder
           → EndsWith file (Ok m) name mid now.folder before.out now.out before.err now.err status → Runs command before now status
       of None is but ends =
-          puts_run command before now status (makes_of None m promised read but) (subst (λ f. IsFiled f m.certificate.items now.folder) (sym is) tt) ends.1 keeps
+          puts_run command before now status (makes_of None m promised but) (subst (λ f. IsFiled f m.certificate.items now.folder) (sym is) tt) ends.1 keeps
       of (Some f) is but (inl first) =
-          puts_run command before now status (makes_of (Some f) m promised read but) (subst (λ o. IsFiled o m.certificate.items now.folder) (sym is) first.filed) first.puts keeps
+          puts_run command before now status (makes_of (Some f) m promised but) (subst (λ o. IsFiled o m.certificate.items now.folder) (sym is) first.filed) first.puts keeps
       of (Some f) is but (inr (inl filing)) =
-          filing_short command before now status (makes_of (Some f) m promised read but) f is
+          filing_short command before now status (makes_of (Some f) m promised but) f is
           (subst (λ h. IsLeft h now.folder.held f m.certificate.items) kept.names filing.left) filing.untouched filing.is_status
           (rose_later before.folder.shortages mid.shortages now.folder.shortages kept.shortages filing.short) filing.told keeps
       of (Some f) is but (inr (inr filing)) =
-          filing_failed command before now status (makes_of (Some f) m promised read but) f is
+          filing_failed command before now status (makes_of (Some f) m promised but) f is
           (subst (λ h. IsLeft h now.folder.held f m.certificate.items) kept.names filing.left) filing.untouched filing.is_status
           (rose_later before.folder.faults mid.faults now.folder.faults kept.faults filing.fault) filing.silent keeps
 
   ends_run : (file : Option (List ℕ)) → written_file command ≡ file → (made : Result Pieces Refusal)
-      → IfOk made (λ m. Promises command before.folder.held m.certificate.items m.text.items m.report.items) → OnOk made (IsRead (files_of command) before.folder mid)
+      → IfOk made (λ m. Promises command before.folder mid m.certificate.items m.text.items m.report.items)
       → IfErr made (IsCaused command name before.folder mid) → FolderKeeps before.folder mid → KeepsBut file mid now.folder
       → EndsWith file made name mid now.folder before.out now.out before.err now.err status → SinkCounts before.out now.out → SinkCounts before.err now.err
       → Runs command before now status
-  ends_run file is (Ok m) promised read caused kept but ends out err =
-      made_runs file is m promised read kept but ends (subst (λ f. Keeps f before now) (sym is) (keeps_both file before mid now kept but out err))
-  ends_run None is (Err refusal) promised read caused kept but ends out err =
+  ends_run file is (Ok m) promised caused kept but ends out err =
+      made_runs file is m promised kept but ends (subst (λ f. Keeps f before now) (sym is) (keeps_both file before mid now kept but out err))
+  ends_run None is (Err refusal) promised caused kept but ends out err =
       refusal_runs refusal caused kept.names ends.0 ends.1 (subst (λ f. Keeps f before now) (sym is) (keeps_both None before mid now kept but out err))
-  ends_run (Some file) is (Err refusal) promised read caused kept but ends out err =
+  ends_run (Some file) is (Err refusal) promised caused kept but ends out err =
       refusal_runs refusal caused kept.names ends.0 ends.1 (subst (λ f. Keeps f before now) (sym is) (keeps_both (Some file) before mid now kept but out err))
 
 -- ---- Each command
-
--- one of one file
-one_of_one : 1 ≤ 1
-one_of_one = omega arith
 
 -- without a schedule the source is meant
 source_meant : (refusal : Refusal) (source : List ℕ) → source ≡ fold_file refusal source None
 source_meant (Unread operand.Schedule why) source = refl
 source_meant _ source = refl
 
-fold_caused : (source : List ℕ) (settings : Settings) (file : Option (List ℕ)) (before mid : FolderState) (made : Result Pieces Refusal) → IsRead 1 before mid
+fold_caused : (source : List ℕ) (settings : Settings) (file : Option (List ℕ)) (before mid : FolderState) (made : Result Pieces Refusal) → IsReadInOrder (source ∷ []) before mid
     → IfErr made (λ refusal. FoldCause refusal source None settings before mid) → IfErr made (IsCaused (Fold source None settings file) source before mid)
 fold_caused source settings file before mid (Ok text) reads cause = tt
-fold_caused source settings file before mid (Err refusal) reads cause =
-    (cause, record { exact = λ _. reads; few = (1, (one_of_one, reads)) }, ap (line_of refusal) (source_meant refusal source))
+fold_caused source settings file before mid (Err refusal) reads cause = (cause, reads, ap (line_of refusal) (source_meant refusal source))
 
-fold_by_caused : (source schedule : List ℕ) (settings : Settings) (file : Option (List ℕ)) (name : List ℕ) (before mid : FolderState) (made : Result Pieces Refusal)
-    → IfErr made (λ refusal. FoldCause refusal source (Some schedule) settings before mid)
-    → IfErr made (λ refusal. HasRead (Fold source (Some schedule) settings file) refusal before mid)
-    → IfErr made (λ refusal. name ≡ fold_file refusal source (Some schedule))
+fold_by_caused : (source schedule : List ℕ) (settings : Settings) (file : Option (List ℕ)) (name : List ℕ) (before mid : FolderState) (made : Result Pieces Refusal) → IsReadInOrder (source ∷ schedule ∷ []) before mid
+    → IfErr made (λ refusal. FoldCause refusal source (Some schedule) settings before mid) → IfErr made (λ refusal. name ≡ fold_file refusal source (Some schedule))
     → IfErr made (IsCaused (Fold source (Some schedule) settings file) name before mid)
-fold_by_caused source schedule settings file name before mid (Ok text) cause reads is = tt
-fold_by_caused source schedule settings file name before mid (Err refusal) cause reads is = (cause, reads, ap (line_of refusal) is)
+fold_by_caused source schedule settings file name before mid (Ok text) reads cause is = tt
+fold_by_caused source schedule settings file name before mid (Err refusal) reads cause is = (cause, reads, ap (line_of refusal) is)
 
-once : (before mid : FolderState) (made : Result Pieces Refusal) → IsRead 1 before mid → OnOk made (IsRead 1 before mid)
-once before mid (Ok text) reads = reads
-once before mid (Err refusal) reads = tt
-
-replay_caused : (source schedule certificate name : List ℕ) (before mid : FolderState) (made : Result Pieces Refusal)
-    → IfErr made (λ refusal. ReplayCause refusal source schedule certificate before mid)
-    → IfErr made (λ refusal. HasRead (Replay source schedule certificate) refusal before mid)
-    → IfErr made (λ refusal. name ≡ replay_file refusal source schedule certificate)
+replay_caused : (source schedule certificate name : List ℕ) (before mid : FolderState) (made : Result Pieces Refusal) → IsReadInOrder (source ∷ schedule ∷ certificate ∷ []) before mid
+    → IfErr made (λ refusal. ReplayCause refusal source schedule certificate before mid) → IfErr made (λ refusal. name ≡ replay_file refusal source schedule certificate)
     → IfErr made (IsCaused (Replay source schedule certificate) name before mid)
-replay_caused source schedule certificate name before mid (Ok text) cause reads is = tt
-replay_caused source schedule certificate name before mid (Err refusal) cause reads is = (cause, reads, ap (line_of refusal) is)
+replay_caused source schedule certificate name before mid (Ok text) reads cause is = tt
+replay_caused source schedule certificate name before mid (Err refusal) reads cause is = (cause, reads, ap (line_of refusal) is)
 
-run_caused : (source feed : List ℕ) (limit : ℕ) (name : List ℕ) (before mid : FolderState) (made : Result Pieces Refusal)
-    → IfErr made (λ refusal. RunCause refusal source feed limit before mid)
-    → IfErr made (λ refusal. HasRead (Run source feed limit) refusal before mid) → IfErr made (λ refusal. name ≡ file_of refusal source feed)
+run_caused : (source feed : List ℕ) (limit : ℕ) (name : List ℕ) (before mid : FolderState) (made : Result Pieces Refusal) → IsReadInOrder (source ∷ feed ∷ []) before mid
+    → IfErr made (λ refusal. RunCause refusal source feed limit before mid) → IfErr made (λ refusal. name ≡ file_of refusal source feed)
     → IfErr made (IsCaused (Run source feed limit) name before mid)
-run_caused source feed limit name before mid (Ok text) cause reads is = tt
-run_caused source feed limit name before mid (Err refusal) cause reads is = (cause, reads, ap (line_of refusal) is)
+run_caused source feed limit name before mid (Ok text) reads cause is = tt
+run_caused source feed limit name before mid (Err refusal) reads cause is = (cause, reads, ap (line_of refusal) is)
 
-flow_caused : (source : List ℕ) (before mid : FolderState) (made : Result Pieces Refusal) → IsRead 1 before mid
+flow_caused : (source : List ℕ) (before mid : FolderState) (made : Result Pieces Refusal) → IsReadInOrder (source ∷ []) before mid
     → IfErr made (λ refusal. FlowCause refusal source before mid) → IfErr made (IsCaused (Flow source) source before mid)
 flow_caused source before mid (Ok m) reads cause = tt
-flow_caused source before mid (Err refusal) reads cause = (cause, record { exact = λ _. reads; few = (1, (one_of_one, reads)) }, refl)
-
-none_of_none : 0 ≤ 0
-none_of_none = omega arith
+flow_caused source before mid (Err refusal) reads cause = (cause, reads, refl)
 
 big_caused : (stages : ℕ) (before : FolderState) (made : Result Pieces Refusal) → IfErr made (BigCause stages) → IfErr made (IsCaused (Big stages) [] before before)
 big_caused stages before (Ok m) cause = tt
-big_caused stages before (Err refusal) cause = (cause, record { exact = λ _. refl; few = (0, (none_of_none, refl)) }, refl)
+big_caused stages before (Err refusal) cause = ((nothing_read before, cause), none_in_order [] before, refl)
 
-big_promised : (stages : ℕ) (made : Result Pieces Refusal) (held : Option Files) → IfOk made (λ m. SumsUp stages m.text.items) → IfOk made (λ m. m.report.items ≡ [])
-    → IfOk made (λ m. Promises (Big stages) held m.certificate.items m.text.items m.report.items)
-big_promised stages (Ok m) held sums none = record { sums_up = sums; no_report = none }
-big_promised stages (Err refusal) held sums none = tt
-
-unread_once : (before : FolderState) (made : Result Pieces Refusal) → OnOk made (IsRead 0 before before)
-unread_once before (Ok m) = refl
-unread_once before (Err refusal) = tt
+big_promised : (stages : ℕ) (before : FolderState) (made : Result Pieces Refusal) → IfOk made (λ m. SumsUp stages m.text.items) → IfOk made (λ m. m.report.items ≡ [])
+    → IfOk made (λ m. Promises (Big stages) before before m.certificate.items m.text.items m.report.items)
+big_promised stages before (Ok m) sums none = record { reads = nothing_read before; sums_up = sums; no_report = none }
+big_promised stages before (Err refusal) sums none = tt
 
 pub fold_ends : (source : List ℕ) (settings : Settings) (file : Option (List ℕ)) (before : Outside) (mid : FolderState) (now : Outside) (status : ℕ) (made : Result Pieces Refusal)
-    → IfOk made (λ m. FoldPromises source None settings file before.folder.held m.certificate.items m.text.items m.report.items)
-    → IfErr made (λ refusal. FoldCause refusal source None settings before.folder mid) → IsRead 1 before.folder mid → FolderKeeps before.folder mid → KeepsBut file mid now.folder
+    → IfOk made (λ m. FoldPromises source None settings file before.folder mid m.certificate.items m.text.items m.report.items)
+    → IfErr made (λ refusal. FoldCause refusal source None settings before.folder mid) → IsReadInOrder (source ∷ []) before.folder mid → FolderKeeps before.folder mid → KeepsBut file mid now.folder
     → EndsWith file made source mid now.folder before.out now.out before.err now.err status → SinkCounts before.out now.out → SinkCounts before.err now.err
     → Runs (Fold source None settings file) before now status
 fold_ends source settings file before mid now status made promised cause reads kept but ends out err =
-    ends_run (Fold source None settings file) source before mid now status file refl made promised (once before.folder mid made reads)
+    ends_run (Fold source None settings file) source before mid now status file refl made promised
     (fold_caused source settings file before.folder mid made reads cause) kept but ends out err
 
 pub fold_by_ends : (source schedule : List ℕ) (settings : Settings) (file : Option (List ℕ)) (name : List ℕ) (before : Outside) (mid : FolderState) (now : Outside) (status : ℕ) (made : Result Pieces Refusal)
-    → IfOk made (λ m. FoldPromises source (Some schedule) settings file before.folder.held m.certificate.items m.text.items m.report.items) → OnOk made (IsRead 2 before.folder mid)
-    → IfErr made (λ refusal. FoldCause refusal source (Some schedule) settings before.folder mid)
-    → IfErr made (λ refusal. HasRead (Fold source (Some schedule) settings file) refusal before.folder mid)
+    → IfOk made (λ m. FoldPromises source (Some schedule) settings file before.folder mid m.certificate.items m.text.items m.report.items)
+    → IfErr made (λ refusal. FoldCause refusal source (Some schedule) settings before.folder mid) → IsReadInOrder (source ∷ schedule ∷ []) before.folder mid
     → IfErr made (λ refusal. name ≡ fold_file refusal source (Some schedule)) → FolderKeeps before.folder mid → KeepsBut file mid now.folder
     → EndsWith file made name mid now.folder before.out now.out before.err now.err status → SinkCounts before.out now.out → SinkCounts before.err now.err
     → Runs (Fold source (Some schedule) settings file) before now status
-fold_by_ends source schedule settings file name before mid now status made promised reads cause refused_reads is kept but ends out err =
-    ends_run (Fold source (Some schedule) settings file) name before mid now status file refl made promised reads
-    (fold_by_caused source schedule settings file name before.folder mid made cause refused_reads is) kept but ends out err
+fold_by_ends source schedule settings file name before mid now status made promised cause reads is kept but ends out err =
+    ends_run (Fold source (Some schedule) settings file) name before mid now status file refl made promised
+    (fold_by_caused source schedule settings file name before.folder mid made reads cause is) kept but ends out err
 
 pub replay_ends : (source schedule certificate name : List ℕ) (before now : Outside) (status : ℕ) (made : Result Pieces Refusal)
-    → IfOk made (λ m. ReplayPromises source schedule certificate before.folder.held m.text.items m.report.items) → OnOk made (IsRead 3 before.folder now.folder)
+    → IfOk made (λ m. ReplayPromises source schedule certificate before.folder now.folder m.text.items m.report.items)
     → IfErr made (λ refusal. ReplayCause refusal source schedule certificate before.folder now.folder)
-    → IfErr made (λ refusal. HasRead (Replay source schedule certificate) refusal before.folder now.folder)
+    → IsReadInOrder (source ∷ schedule ∷ certificate ∷ []) before.folder now.folder
     → IfErr made (λ refusal. name ≡ replay_file refusal source schedule certificate) → FolderKeeps before.folder now.folder
     → Ends made name before.out now.out before.err now.err status → SinkCounts before.out now.out → SinkCounts before.err now.err
     → Runs (Replay source schedule certificate) before now status
-replay_ends source schedule certificate name before now status made promised reads cause refused_reads is kept ends out err =
-    ends_run (Replay source schedule certificate) name before now.folder now status None refl made promised reads
-    (replay_caused source schedule certificate name before.folder now.folder made cause refused_reads is) kept (keeps_still now.folder) (refl, ends) out err
+replay_ends source schedule certificate name before now status made promised cause reads is kept ends out err =
+    ends_run (Replay source schedule certificate) name before now.folder now status None refl made promised
+    (replay_caused source schedule certificate name before.folder now.folder made reads cause is) kept (keeps_still now.folder) (refl, ends) out err
 
 pub run_ends : (source feed : List ℕ) (limit : ℕ) (name : List ℕ) (before now : Outside) (status : ℕ) (made : Result Pieces Refusal)
-    → IfOk made (λ m. RunPromises source feed limit before.folder.held m.text.items m.report.items) → OnOk made (IsRead 2 before.folder now.folder)
+    → IfOk made (λ m. RunPromises source feed limit before.folder now.folder m.text.items m.report.items)
     → IfErr made (λ refusal. RunCause refusal source feed limit before.folder now.folder)
-    → IfErr made (λ refusal. HasRead (Run source feed limit) refusal before.folder now.folder) → IfErr made (λ refusal. name ≡ file_of refusal source feed)
+    → IsReadInOrder (source ∷ feed ∷ []) before.folder now.folder → IfErr made (λ refusal. name ≡ file_of refusal source feed)
     → FolderKeeps before.folder now.folder → Ends made name before.out now.out before.err now.err status → SinkCounts before.out now.out → SinkCounts before.err now.err
     → Runs (Run source feed limit) before now status
-run_ends source feed limit name before now status made promised reads cause refused_reads is kept ends out err =
-    ends_run (Run source feed limit) name before now.folder now status None refl made promised reads
-    (run_caused source feed limit name before.folder now.folder made cause refused_reads is) kept (keeps_still now.folder) (refl, ends) out err
+run_ends source feed limit name before now status made promised cause reads is kept ends out err =
+    ends_run (Run source feed limit) name before now.folder now status None refl made promised
+    (run_caused source feed limit name before.folder now.folder made reads cause is) kept (keeps_still now.folder) (refl, ends) out err
 
 pub flow_ends : (source : List ℕ) (before now : Outside) (status : ℕ) (made : Result Pieces Refusal)
-    → IfOk made (λ m. FlowPromises source before.folder.held m.text.items m.report.items) → IfErr made (λ refusal. FlowCause refusal source before.folder now.folder)
-    → IsRead 1 before.folder now.folder → FolderKeeps before.folder now.folder → Ends made source before.out now.out before.err now.err status
+    → IfOk made (λ m. FlowPromises source before.folder now.folder m.text.items m.report.items) → IfErr made (λ refusal. FlowCause refusal source before.folder now.folder)
+    → IsReadInOrder (source ∷ []) before.folder now.folder → FolderKeeps before.folder now.folder → Ends made source before.out now.out before.err now.err status
     → SinkCounts before.out now.out → SinkCounts before.err now.err → Runs (Flow source) before now status
 flow_ends source before now status made promised cause reads kept ends out err =
-    ends_run (Flow source) source before now.folder now status None refl made promised (once before.folder now.folder made reads)
+    ends_run (Flow source) source before now.folder now status None refl made promised
     (flow_caused source before.folder now.folder made reads cause) kept (keeps_still now.folder) (refl, ends) out err
 
 pub big_ends : (stages : ℕ) (folder : FolderState) (out now_out err now_err : SinkState) (status : ℕ) (made : Result Pieces Refusal)
     → IfOk made (λ m. SumsUp stages m.text.items) → IfOk made (λ m. m.report.items ≡ []) → IfErr made (BigCause stages)
     → Ends made [] out now_out err now_err status → SinkCounts out now_out → SinkCounts err now_err → Runs (Big stages) (outside folder out err) (outside folder now_out now_err) status
 big_ends stages folder out now_out err now_err status made sums none cause ends out_counts err_counts =
-    ends_run (Big stages) [] (outside folder out err) folder (outside folder now_out now_err) status None refl made (big_promised stages made folder.held sums none) (unread_once folder made)
+    ends_run (Big stages) [] (outside folder out err) folder (outside folder now_out now_err) status None refl made (big_promised stages folder made sums none)
     (big_caused stages folder made cause) (record { names = refl; faults = omega arith; shortages = omega arith }) (keeps_still folder) (refl, ends) out_counts err_counts
 
 -- ---- Want of memory for the words
@@ -552,7 +568,7 @@ short_serves words before now status is = go (command_of words)
       keeps = keeps_any (written_file command) before now is.keeps;
       done = λ e. absurd (omega arith);
       short = λ _. inl (record {
-        reads = (0, (omega arith, ap (λ (f : FolderState). f.reads) is.folder));
+        reads = subst (IsReadInOrder (names_of command) before.folder) (sym is.folder) (none_in_order (names_of command) before.folder);
         names = ap (λ (f : FolderState). f.held) is.folder;
         out = ap (λ (o : SinkState). o.taken) is.out;
         told = is.told;

@@ -1,10 +1,13 @@
 -- The program has to succeed where nothing is in its way, and what it writes then keeps the outputs of the source.
-use Rattle.std.proofs.Common.{◌≡◌, ◌≢◌, ◌≤◌, ◌<◌, ◌⊎◌, ℕ, ℤ, List, [], length, Option, None, Some, MatchOption, refl, sym, ap, subst, ◌∙◌, inl, inr, arith}
+use Rattle.std.proofs.Common.{◌≡◌, ◌≢◌, ◌≤◌, ◌<◌, ◌⊎◌, ℕ, ℤ, List, [], ◌∷◌, length, Option, None, Some, Result, Ok, Err, MatchOption, refl, sym, ap, subst, ◌∙◌, inl, inr, arith}
 use Rattle.std.proofs.lemmas.Bool.Decides.{eqb_tells}
+use Rattle.std.proofs.lemmas.List.{append_cancel_left}
 use Rattle.std.proofs.lemmas.Option.{none-some, same_Some}
 use Rattle.affc_io.specs.Count.{Rose}
 use Rattle.affc_io.specs.Files.{Holds, held_under}
+use Rattle.affc_io.specs.Reads.{Read}
 use Rattle.affc_io.specs.State.{Files, FolderState}
+use Rattle.affc_io.specs.declared.folder.ReadFault.{ReadFault}
 use Rattle.affc_io.specs.Taken.{grown}
 use Rattle.affc_io.specs.declared.folder.TheConstants.{LONGEST_READ}
 use Rattle.affc_ast.specs.Compiles.{CompilesText, RunsAs}
@@ -34,10 +37,10 @@ use Rattle.affc_lines.specs.declared.refusal.Refusal.TheVariants.{Unread, Source
 use Rattle.affc_lines.specs.declared.refusal.UnreadWhy.{UnreadWhy}
 use Rattle.affc_lines.specs.declared.refusal.UnreadWhy.TheVariants.{Unreadable, Long}
 use Rattle.affc_cli.specs.Budgets.{answers_of, CertifiedWithin, FoldMakes}
-use Rattle.affc_cli.specs.Laws.{IsServed, IsGiven, IsGivenAny, NoFault, IsFoldedWhole, FoldEnds, FlowEnds, ReplayEnds, CertificatesAreValid, EndAlike, KeepsOutputs, OutputsAreKept, KeepsStores, StoresFollow}
-use Rattle.affc_cli.specs.Outside.{Outside}
+use Rattle.affc_cli.specs.Laws.{IsServed, IsGiven, IsGivenAny, NoFault, IsFoldedWhole, FoldEnds, FlowEnds, ReplayEnds, CertificatesAreValid, EndAlike, KeepsOutputs, OutputsAreKept, OutputsAreKeptAsRead, KeepsStores, StoresFollow}
+use Rattle.affc_cli.specs.Outside.{Outside, IsRead}
 use Rattle.affc_cli.specs.Promise.{FoldPromises, ReplayPromises, Cause, Written, Failed, IsRefused, Runs, WordsRefused}
-use Rattle.affc_cli.specs.Refusal.{IsUnread, IsUnreadAny, HoldsAny, TextCause, TextRefused, FoldCause, FlowRefused, FlowTextCause, FlowCause, ReplayRefused, ReplayCause}
+use Rattle.affc_cli.specs.Refusal.{IsUnread, IsScheduleUnread, HoldsAny, answered_any, TextCause, TextRefused, FoldCause, FlowRefused, FlowTextCause, FlowCause, ReplayRefused, ReplayCause}
 use Rattle.affc_cli.specs.Replay.{ReplayTextCause}
 use Rattle.affc_cli.proofs.Readings.{same_plenty, certified_is_valid}
 
@@ -85,10 +88,10 @@ not_unread Unreadable name text before now given none (inl rose) = none rose
 not_unread Unreadable name text before now given none (inr missing) = is_missing before.held name text (Rose before.faults now.faults) given.holds missing
 not_unread Long name text before now given none long = is_long before.held name text (Rose before.faults now.faults) given.holds given.short long
 
-not_unread_any : (why : UnreadWhy) (name text : Option (List ℕ)) (before now : FolderState) → IsGivenAny before.held name text → ¬ (Rose before.faults now.faults) → IsUnreadAny why name before now → ⊥
-not_unread_any why None text before now given none unread = unread
-not_unread_any why (Some name) None before now given none unread = given
-not_unread_any why (Some name) (Some text) before now given none unread = not_unread why name text before now given none unread
+not_unread_any : (why : UnreadWhy) (source : List ℕ) (name text : Option (List ℕ)) (before now : FolderState) → IsGivenAny before.held name text → ¬ (Rose before.faults now.faults) → IsScheduleUnread why source name before now → ⊥
+not_unread_any why source None text before now given none u = u
+not_unread_any why source (Some name) None before now given none u = given
+not_unread_any why source (Some name) (Some text) before now given none u = not_unread why name text before now given none u.unread
 
 -- what was read is what is held
 pub same_text : (held : Option Files) (name text other : List ℕ) → held_under held name ≡ Some text → Holds held name other → other ≡ text
@@ -122,15 +125,15 @@ module _ (law : UnlimitedIsNotRefused) (text : List ℕ) (order : Option (List �
   text_only _ c = absurd c
 
   module _ (source : List ℕ) (schedule : Option (List ℕ)) (before now : FolderState) (given : IsGiven before.held source text) (given_too : IsGivenAny before.held schedule order) (none : ¬ (Rose before.faults now.faults)) where
-    texts_only : (refusal : Refusal) → TextRefused refusal before.held source schedule settings → refusal ≡ Memory
+    texts_only : (refusal : Refusal) → TextRefused refusal before now source schedule settings → refusal ≡ Memory
     texts_only refusal r =
         let same : r.texts.source_text ≡ text = same_text before.held source text r.texts.source_text given.holds r.texts.source_held in
         let same_too : r.texts.schedule_text ≡ order = same_any before.held schedule order r.texts.schedule_text given_too r.texts.schedule_held in
         text_only refusal (subst (λ t. TextCause t order settings refusal) same (subst (λ o. TextCause r.texts.source_text o settings refusal) same_too r.cause))
 
     fold_only : (refusal : Refusal) → FoldCause refusal source schedule settings before now → refusal ≡ Memory
-    fold_only (Unread operand.Source why) c = absurd (not_unread why source text before now given none c)
-    fold_only (Unread operand.Schedule why) c = absurd (not_unread_any why schedule order before now given_too none c.1)
+    fold_only (Unread operand.Source why) c = absurd (not_unread why source text before now given none c.unread)
+    fold_only (Unread operand.Schedule why) c = absurd (not_unread_any why source schedule order before now given_too none c)
     fold_only Memory c = refl
     fold_only _ c = texts_only _ c
 
@@ -144,7 +147,7 @@ module _ (law : UnlimitedIsNotRefused) (all : (cost : CostName) → UnlimitedFol
       → IsGiven before.folder.held source text → IsGivenAny before.folder.held schedule order → IsUnlimited f.program f.plan.schedule settings.budget
       → Written (Fold source schedule settings file) before now → IsFoldedWhole text order settings before now
   folded_whole source schedule settings file before now text order f given given_too plenty w =
-      let p : FoldPromises source schedule settings file before.folder.held w.makes.certificate w.makes.text w.makes.report = w.makes.promised in
+      let p : FoldPromises source schedule settings file before.folder now.folder w.makes.certificate w.makes.text w.makes.report = w.makes.promised in
       let m = made_of file p.texts.source_text p.texts.schedule_text settings w.makes.certificate w.makes.text w.makes.report p.makes in
       let same : p.texts.source_text ≡ text = same_text before.folder.held source text p.texts.source_text given.holds p.texts.source_held in
       let same_too : p.texts.schedule_text ≡ order = same_any before.folder.held schedule order p.texts.schedule_text given_too p.texts.schedule_held in
@@ -197,11 +200,11 @@ module _ (law : SoundIsNotRefused) (text : List ℕ) (s : IsSound text) where
   sound_only _ c = absurd c
 
   module _ (source : List ℕ) (before now : FolderState) (given : IsGiven before.held source text) (none : ¬ (Rose before.faults now.faults)) where
-    held_only : (refusal : Refusal) → FlowRefused refusal before.held source → refusal ≡ Memory
-    held_only refusal r = sound_only refusal (subst (λ t. FlowTextCause t refusal) (same_text before.held source text r.source_text given.holds r.source_held) r.cause)
+    held_only : (refusal : Refusal) → FlowRefused refusal before now source → refusal ≡ Memory
+    held_only refusal r = sound_only refusal (subst (λ t. FlowTextCause t refusal) (same_text before.held source text r.texts.source_text given.holds r.texts.source_held) r.cause)
 
     flow_only : (refusal : Refusal) → FlowCause refusal source before now → refusal ≡ Memory
-    flow_only (Unread operand.Source why) c = absurd (not_unread why source text before now given none c)
+    flow_only (Unread operand.Source why) c = absurd (not_unread why source text before now given none c.unread)
     flow_only Memory c = refl
     flow_only _ c = held_only _ c
 
@@ -224,7 +227,7 @@ module _ (law : ValidIsNotRefused) (text order shown : List ℕ) (v : IsValid te
 
   module _ (source schedule certificate : List ℕ) (before now : FolderState) (given : IsGiven before.held source text) (given_order : IsGiven before.held schedule order) (given_shown : IsGiven before.held certificate shown)
       (none : ¬ (Rose before.faults now.faults)) where
-    all_only : (refusal : Refusal) → ReplayRefused refusal before.held source schedule certificate → refusal ≡ Memory
+    all_only : (refusal : Refusal) → ReplayRefused refusal before now source schedule certificate → refusal ≡ Memory
     all_only refusal r =
         let a : r.texts.source_text ≡ text = same_text before.held source text r.texts.source_text given.holds r.texts.source_held in
         let b : r.texts.schedule_text ≡ order = same_text before.held schedule order r.texts.schedule_text given_order.holds r.texts.schedule_held in
@@ -234,9 +237,9 @@ module _ (law : ValidIsNotRefused) (text order shown : List ℕ) (v : IsValid te
         (subst (λ t. ReplayTextCause r.texts.source_text t shown refusal) b (subst (λ t. ReplayTextCause r.texts.source_text r.texts.schedule_text t refusal) c r.cause)))
 
     replay_only : (refusal : Refusal) → ReplayCause refusal source schedule certificate before now → refusal ≡ Memory
-    replay_only (Unread operand.Source why) c = absurd (not_unread why source text before now given none c)
-    replay_only (Unread operand.Schedule why) c = absurd (not_unread why schedule order before now given_order none c.1)
-    replay_only (Unread operand.Certificate why) c = absurd (not_unread why certificate shown before now given_shown none c.2)
+    replay_only (Unread operand.Source why) c = absurd (not_unread why source text before now given none c.unread)
+    replay_only (Unread operand.Schedule why) c = absurd (not_unread why schedule order before now given_order none c.unread)
+    replay_only (Unread operand.Certificate why) c = absurd (not_unread why certificate shown before now given_shown none c.unread)
     replay_only Memory c = refl
     replay_only _ c = all_only _ c
 
@@ -252,7 +255,7 @@ pub certificates_are_valid : CertificatesAreValid
 certificates_are_valid source schedule settings file before now text order served given given_order =
     let command = Fold source (Some schedule) settings (Some file) in
     let w : Written command before now = (runs_of command before now 0 served).done refl in
-    let p : FoldPromises source (Some schedule) settings (Some file) before.folder.held w.makes.certificate w.makes.text w.makes.report = w.makes.promised in
+    let p : FoldPromises source (Some schedule) settings (Some file) before.folder now.folder w.makes.certificate w.makes.text w.makes.report = w.makes.promised in
     let made : CertifiedWithin p.texts.source_text p.texts.schedule_text settings w.makes.certificate w.makes.text w.makes.report = p.makes in
     let same : p.texts.source_text ≡ text = same_text before.folder.held source text p.texts.source_text given.holds p.texts.source_held in
     let same_order : p.texts.schedule_text ≡ Some order = same_any before.folder.held (Some schedule) (Some order) p.texts.schedule_text given_order p.texts.schedule_held in
@@ -284,31 +287,64 @@ kept text source_text ordered place c = record {
       same_outputs = r.same_outputs;
     }
 
-fold_kept : (source source_text : List ℕ) (schedule : Option (List ℕ)) (settings : Settings) (file : Option (List ℕ)) (before now : Outside) → held_under before.folder.held source ≡ Some source_text
-    → Written (Fold source schedule settings file) before now → (text : List ℕ) × ((now.out.taken ≡ grown before.out.taken text) × KeepsOutputs text source_text)
-fold_kept source source_text schedule settings file before now held w =
-    let p : FoldPromises source schedule settings file before.folder.held w.makes.certificate w.makes.text w.makes.report = w.makes.promised in
+-- what was written keeps the outputs of each text that is the source's
+abbrev KeptOf : (before now : Outside) → (source_text : List ℕ) → Type 0
+KeptOf before now source_text = (text : List ℕ) × ((now.out.taken ≡ grown before.out.taken text) × KeepsOutputs text source_text)
+
+fold_kept : (source source_text : List ℕ) (schedule : Option (List ℕ)) (settings : Settings) (file : Option (List ℕ)) (before now : Outside) (w : Written (Fold source schedule settings file) before now)
+    → w.makes.promised.texts.source_text ≡ source_text → KeptOf before now source_text
+fold_kept source source_text schedule settings file before now w same =
+    let p : FoldPromises source schedule settings file before.folder now.folder w.makes.certificate w.makes.text w.makes.report = w.makes.promised in
     let m = made_of file p.texts.source_text p.texts.schedule_text settings w.makes.certificate w.makes.text w.makes.report p.makes in
     let r = m.1.1.folds_to in
-    let same : p.texts.source_text ≡ source_text = same_text before.folder.held source source_text p.texts.source_text held p.texts.source_held in
     (w.makes.text, (w.out, subst (KeepsOutputs w.makes.text) same (kept w.makes.text p.texts.source_text (in_target_order r.plan.schedule) (place r.folds) r.compiles)))
 
-replay_kept : (source source_text schedule certificate : List ℕ) (before now : Outside) → held_under before.folder.held source ≡ Some source_text
-    → Written (Replay source schedule certificate) before now → (text : List ℕ) × ((now.out.taken ≡ grown before.out.taken text) × KeepsOutputs text source_text)
-replay_kept source source_text schedule certificate before now held w =
-    let p : ReplayPromises source schedule certificate before.folder.held w.makes.text w.makes.report = w.makes.promised in
+replay_kept : (source source_text schedule certificate : List ℕ) (before now : Outside) (w : Written (Replay source schedule certificate) before now)
+    → w.makes.promised.texts.source_text ≡ source_text → KeptOf before now source_text
+replay_kept source source_text schedule certificate before now w same =
+    let p : ReplayPromises source schedule certificate before.folder now.folder w.makes.text w.makes.report = w.makes.promised in
     let r = p.replays_to in
-    let same : p.texts.source_text ≡ source_text = same_text before.folder.held source source_text p.texts.source_text held p.texts.source_held in
     (w.makes.text, (w.out, subst (KeepsOutputs w.makes.text) same (kept w.makes.text p.texts.source_text (in_target_order r.plan.schedule) (place r.folds) r.compiles)))
 
 pub outputs_are_kept : OutputsAreKept
 outputs_are_kept (Fold name its_schedule settings file) source schedule before now source_text is served held =
-    fold_kept name source_text its_schedule settings file before now (ap (held_under before.folder.held) is.0 ∙ held) ((runs_of (Fold name its_schedule settings file) before now 0 served).done refl)
+    let w : Written (Fold name its_schedule settings file) before now = (runs_of (Fold name its_schedule settings file) before now 0 served).done refl in
+    let t = w.makes.promised.texts in
+    fold_kept name source_text its_schedule settings file before now w (same_text before.folder.held name source_text t.source_text (ap (held_under before.folder.held) is.0 ∙ held) t.source_held)
 outputs_are_kept (Replay name its_schedule certificate) source schedule before now source_text is served held =
-    replay_kept name source_text its_schedule certificate before now (ap (held_under before.folder.held) is.0 ∙ held) ((runs_of (Replay name its_schedule certificate) before now 0 served).done refl)
+    let w : Written (Replay name its_schedule certificate) before now = (runs_of (Replay name its_schedule certificate) before now 0 served).done refl in
+    let t = w.makes.promised.texts in
+    replay_kept name source_text its_schedule certificate before now w (same_text before.folder.held name source_text t.source_text (ap (held_under before.folder.held) is.0 ∙ held) t.source_held)
 outputs_are_kept (Run name feed limit) source schedule before now source_text is served held = absurd is
 outputs_are_kept (Flow name) source schedule before now source_text is served held = absurd is
 outputs_are_kept (Big stages) source schedule before now source_text is served held = absurd is
+
+-- the first read of a call answered one text
+abbrev text_of : Result (List ℕ) ReadFault → List ℕ
+text_of (Ok text) = text
+text_of (Err fault) = []
+
+abbrev first_text : List Read → List ℕ
+first_text [] = []
+first_text (first ∷ others) = text_of first.1
+
+one_read : (before now : FolderState) (name other text source_text : List ℕ) (more others : List Read) → IsRead ((name, Ok text) ∷ more) before now → IsRead ((other, Ok source_text) ∷ others) before now → text ≡ source_text
+one_read before now name other text source_text more others read given =
+    ap first_text (append_cancel_left before.reads ((name, Ok text) ∷ more) ((other, Ok source_text) ∷ others) (sym read ∙ given))
+
+pub outputs_are_kept_as_read : OutputsAreKeptAsRead
+outputs_are_kept_as_read (Fold name its_schedule settings file) source schedule before now source_text others is served read =
+    let w : Written (Fold name its_schedule settings file) before now = (runs_of (Fold name its_schedule settings file) before now 0 served).done refl in
+    let t = w.makes.promised.texts in
+    fold_kept name source_text its_schedule settings file before now w (one_read before.folder now.folder name source t.source_text source_text (answered_any its_schedule t.schedule_text) others t.reads read)
+outputs_are_kept_as_read (Replay name its_schedule certificate) source schedule before now source_text others is served read =
+    let w : Written (Replay name its_schedule certificate) before now = (runs_of (Replay name its_schedule certificate) before now 0 served).done refl in
+    let t = w.makes.promised.texts in
+    replay_kept name source_text its_schedule certificate before now w
+    (one_read before.folder now.folder name source t.source_text source_text ((its_schedule, Ok t.schedule_text) ∷ (certificate, Ok t.certificate_text) ∷ []) others t.reads read)
+outputs_are_kept_as_read (Run name feed limit) source schedule before now source_text others is served read = absurd is
+outputs_are_kept_as_read (Flow name) source schedule before now source_text others is served read = absurd is
+outputs_are_kept_as_read (Big stages) source schedule before now source_text others is served read = absurd is
 
 -- ---- Its stores are the source's, in their order and at their places
 
@@ -349,7 +385,7 @@ Stored before now source_text order =
 fold_stores : (source source_text : List ℕ) (schedule order : Option (List ℕ)) (settings : Settings) (file : Option (List ℕ)) (before now : Outside) → IsGiven before.folder.held source source_text
     → IsGivenAny before.folder.held schedule order → Written (Fold source schedule settings file) before now → Stored before now source_text order
 fold_stores source source_text schedule order settings file before now given given_too w =
-    let p : FoldPromises source schedule settings file before.folder.held w.makes.certificate w.makes.text w.makes.report = w.makes.promised in
+    let p : FoldPromises source schedule settings file before.folder now.folder w.makes.certificate w.makes.text w.makes.report = w.makes.promised in
     let m = made_of file p.texts.source_text p.texts.schedule_text settings w.makes.certificate w.makes.text w.makes.report p.makes in
     let r = m.1.1 in
     let same : p.texts.source_text ≡ source_text = same_text before.folder.held source source_text p.texts.source_text given.holds p.texts.source_held in
@@ -361,7 +397,7 @@ fold_stores source source_text schedule order settings file before now given giv
 replay_stores : (source source_text schedule certificate : List ℕ) (order : Option (List ℕ)) (before now : Outside) → IsGiven before.folder.held source source_text
     → IsGivenAny before.folder.held (Some schedule) order → Written (Replay source schedule certificate) before now → Stored before now source_text order
 replay_stores source source_text schedule certificate order before now given given_too w =
-    let p : ReplayPromises source schedule certificate before.folder.held w.makes.text w.makes.report = w.makes.promised in
+    let p : ReplayPromises source schedule certificate before.folder now.folder w.makes.text w.makes.report = w.makes.promised in
     let same : p.texts.source_text ≡ source_text = same_text before.folder.held source source_text p.texts.source_text given.holds p.texts.source_held in
     let same_too : Some p.texts.schedule_text ≡ order = same_any before.folder.held (Some schedule) order (Some p.texts.schedule_text) given_too p.texts.schedule_held in
     let kept : KeepsStores w.makes.text w.makes.report p.texts.source_text (Some p.texts.schedule_text) =

@@ -39,7 +39,7 @@ no_words (Fold source schedule settings file) refusal before now e cause = (subs
 no_words (Replay source schedule certificate) refusal before now e cause = (subst (λ r. Cause (Replay source schedule certificate) r before now) e cause).cause
 no_words (Run source feed limit) refusal before now e cause = (subst (λ r. Cause (Run source feed limit) r before now) e cause).cause
 no_words (Flow source) refusal before now e cause = (subst (λ r. Cause (Flow source) r before now) e cause).cause
-no_words (Big stages) refusal before now e cause = subst (λ r. Cause (Big stages) r before now) e cause
+no_words (Big stages) refusal before now e cause = (subst (λ r. Cause (Big stages) r before now) e cause).1
 
 not_two : (command : Command) (before now : Outside) (status : ℕ) → status ≡ 2 → Runs command before now status → ⊥
 not_two command before now status e runs =

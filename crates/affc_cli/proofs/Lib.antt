@@ -10,3 +10,4 @@ pub mod Ranges
 pub mod RunProofs
 pub mod ExampleProofs
 pub mod LeftProofs
+pub mod UnreadProofs

@@ -59,21 +59,21 @@ module _ (text feed_text : List ℕ) (limit : ℕ) (r : Runnable text feed_text)
       t.written ∙ (λ i. output_text (tree i) (outputs (tree i) (end i).store))
 
   module _ (source feed : List ℕ) (before now : Outside) (given : IsGiven before.folder.held source text) (given_feed : IsGiven before.folder.held feed feed_text) (none : ¬ (Rose before.folder.faults now.folder.faults)) where
-    texts_only : (refusal : Refusal) → TextsRefused refusal before.folder.held source feed limit → refusal ≡ Memory
+    texts_only : (refusal : Refusal) → TextsRefused refusal before.folder now.folder source feed limit → refusal ≡ Memory
     texts_only refusal t =
         let a : t.texts.source_text ≡ text = same_text before.folder.held source text t.texts.source_text given.holds t.texts.source_held in
         let b : t.texts.feed_text ≡ feed_text = same_text before.folder.held feed feed_text t.texts.feed_text given_feed.holds t.texts.feed_held in
         ended_only refusal (subst (λ s. RunTextCause s feed_text limit refusal) a (subst (λ f. RunTextCause t.texts.source_text f limit refusal) b t.cause))
 
     run_only : (refusal : Refusal) → RunCause refusal source feed limit before.folder now.folder → refusal ≡ Memory
-    run_only (Unread operand.Source why) c = absurd (not_unread why source text before.folder now.folder given none c)
-    run_only (Unread operand.Data why) c = absurd (not_unread why feed feed_text before.folder now.folder given_feed none c.1)
+    run_only (Unread operand.Source why) c = absurd (not_unread why source text before.folder now.folder given none c.unread)
+    run_only (Unread operand.Data why) c = absurd (not_unread why feed feed_text before.folder now.folder given_feed none c.unread)
     run_only Memory c = refl
     run_only _ c = texts_only _ c
 
     run_written : Written (Run source feed limit) before now → now.out.taken ≡ grown before.out.taken (output_text r.tree (outputs r.tree last.store))
     run_written w =
-        let p : RunPromises source feed limit before.folder.held w.makes.text w.makes.report = w.makes.promised in
+        let p : RunPromises source feed limit before.folder now.folder w.makes.text w.makes.report = w.makes.promised in
         let a : p.texts.source_text ≡ text = same_text before.folder.held source text p.texts.source_text given.holds p.texts.source_held in
         let b : p.texts.feed_text ≡ feed_text = same_text before.folder.held feed feed_text p.texts.feed_text given_feed.holds p.texts.feed_held in
         let t : RunsTo text feed_text limit w.makes.text =

@@ -1,20 +1,18 @@
 -- What the definitions say of a folder of two files. Each value was found by hand from the rules.
-use Rattle.std.specs.Prelude.{◌≡◌, ◌==◌, ℕ, Bool, true, false, List, [], ◌∷◌, map, Some, None, codes}
+use Rattle.std.specs.Prelude.{◌≡◌, ◌==◌, ℕ, Bool, true, false, List, [], ◌∷◌, map, Some, None, Ok, Err, codes}
 use Rattle.std.specs.List.{list_any}
 use Rattle.affc_io.specs.Examples.{a, b, c, two, two_with}
+use Rattle.affc_io.specs.Reads.{Read}
 use Rattle.affc_io.specs.State.{Files, SinkState}
+use Rattle.affc_io.specs.declared.folder.ReadFault.TheVariants as read
 use Rattle.affc_driver.specs.Flows.{FlowsTo}
 use Rattle.affc_replay.specs.Replays.{ReplaysTo}
 use Rattle.affc_words.specs.declared.words.CostName.TheVariants.{Words as ByWords, Sum, Powers}
-use Rattle.affc_words.specs.Command.{Command, Fold, Replay, Run, Flow, Big}
-use Rattle.affc_lines.specs.declared.refusal.Operand.{Operand}
-use Rattle.affc_lines.specs.declared.refusal.Operand.TheVariants as operand
-use Rattle.affc_lines.specs.declared.refusal.Refusal.TheVariants.{Unread, Budget, Steps}
-use Rattle.affc_lines.specs.declared.refusal.UnreadWhy.TheVariants.{Unreadable, Long}
+use Rattle.affc_words.specs.Command.{Fold, Replay, Run, Flow, Big}
 use Rattle.affc_cli.specs.Big.{plain, summary}
 use Rattle.affc_cli.specs.Budgets.{answers_of, FoldsWithin, CertifiedWithin}
-use Rattle.affc_cli.specs.Outside.{Outside}
-use Rattle.affc_cli.specs.Promise.{statuses_of, reads_of, Makes, IsRefused}
+use Rattle.affc_cli.specs.Outside.{Outside, AreInOrder}
+use Rattle.affc_cli.specs.Promise.{statuses_of, names_of, Makes, IsRefused}
 use Rattle.affc_cli.specs.Refusal.{HoldsAny}
 use Rattle.affc_cli.specs.Run.{RunsTo}
 
@@ -31,12 +29,16 @@ NoNameIsNoText = HoldsAny (Some two) None None × (¬ (HoldsAny (Some two) None 
 abbrev pub sink : (taken : List ℕ) → SinkState
 sink taken = record { taken = Some taken; faults = 0; shortages = 0 }
 
--- the folder holds these files and was read so many times, and the output and the error stream took these bytes
-abbrev pub at : Files → (reads : ℕ) → (out err : List ℕ) → Outside
-at files reads out err = record { folder = record { held = Some files; faults = 0; shortages = 0; reads = reads }; out = sink out; err = sink err }
+-- the folder holds these files, counted so many faults and was read so, and the output and the error stream took these bytes
+abbrev pub beside : Files → (faults : ℕ) → (reads : List Read) → (out err : List ℕ) → Outside
+beside files faults reads out err = record { folder = record { held = Some files; faults = faults; shortages = 0; reads = reads }; out = sink out; err = sink err }
+
+-- no fault was counted
+abbrev pub at : Files → (reads : List Read) → (out err : List ℕ) → Outside
+at files reads out err = beside files 0 reads out err
 
 abbrev pub start : Outside
-start = at two 0 [] []
+start = at two [] [] []
 
 -- of what the names held when the call began, whatever they hold now, and also where the certificate goes to the source's own name
 abbrev pub PromisedOfWhatWasHeld : Type 0
@@ -78,19 +80,33 @@ WhoEndsWithWhat =
 
 -- ---- Reads
 
--- how often a command reads where its source isn't read, where its second file isn't, where its third isn't, and where all are
-abbrev pub reads_at : Command → (second : Operand) → List ℕ
-reads_at command second = map (reads_of command) (Unread operand.Source Unreadable ∷ Unread second Long ∷ Unread operand.Certificate Long ∷ Budget ∷ Steps ∷ [])
+-- the source first, then the schedule or the data, then the certificate
+abbrev pub FilesInOrder : Type 0
+FilesInOrder =
+    (names_of (Fold a None plain (Some c)) ≡ a ∷ [])
+    × (names_of (Fold a (Some b) plain (Some c)) ≡ a ∷ b ∷ [])
+    × (names_of (Replay a b c) ≡ a ∷ b ∷ c ∷ [])
+    × (names_of (Run a b 1) ≡ a ∷ b ∷ [])
+    × (names_of (Flow a) ≡ a ∷ [])
+    × (names_of (Big 8) ≡ [])
 
--- it stops at the first that isn't read
+-- what the names answer: two bytes of `a`, none of `b`, and that `c` isn't held
+abbrev pub of_a : Read
+of_a = (a, Ok (7 ∷ 8 ∷ []))
+
+abbrev pub of_b : Read
+of_b = (b, Ok [])
+
+abbrev pub of_c : Read
+of_c = (c, Err read.Missing)
+
+-- each once and in their order, none behind one that didn't answer, and none of another file
 abbrev pub ReadsStopAtTheFirst : Type 0
-ReadsStopAtTheFirst =
-    (reads_at (Fold a None plain None) operand.Schedule ≡ 1 ∷ 1 ∷ 1 ∷ 1 ∷ 1 ∷ [])
-    × (reads_at (Fold a (Some b) plain (Some c)) operand.Schedule ≡ 1 ∷ 2 ∷ 2 ∷ 2 ∷ 2 ∷ [])
-    × (reads_at (Replay a b c) operand.Schedule ≡ 1 ∷ 2 ∷ 3 ∷ 3 ∷ 3 ∷ [])
-    × (reads_at (Run a b 1) operand.Data ≡ 1 ∷ 2 ∷ 2 ∷ 2 ∷ 2 ∷ [])
-    × (reads_at (Flow a) operand.Schedule ≡ 1 ∷ 1 ∷ 1 ∷ 1 ∷ 1 ∷ [])
-    × (reads_at (Big 8) operand.Schedule ≡ 0 ∷ 0 ∷ 0 ∷ 0 ∷ 0 ∷ [])
+ReadsStopAtTheFirst = AreInOrder (a ∷ c ∷ b ∷ []) [] × AreInOrder (a ∷ c ∷ b ∷ []) (of_a ∷ []) × AreInOrder (a ∷ c ∷ b ∷ []) (of_a ∷ of_c ∷ []) × AreInOrder (a ∷ b ∷ c ∷ []) (of_a ∷ of_b ∷ of_c ∷ [])
+    × (¬ (AreInOrder (a ∷ c ∷ b ∷ []) (of_a ∷ of_c ∷ of_b ∷ [])))
+    × (¬ (AreInOrder (a ∷ c ∷ b ∷ []) (of_c ∷ [])))
+    × (¬ (AreInOrder (a ∷ c ∷ b ∷ []) (of_a ∷ of_a ∷ [])))
+    × (¬ (AreInOrder (a ∷ []) (of_a ∷ of_b ∷ [])))
 
 -- ---- A refusal
 
@@ -99,14 +115,23 @@ line = codes "affc: read c\n"
 
 -- `flow c`, where nothing is held under c: one read, status 3 and its whole line
 abbrev pub RefusalsAreTold : Type 0
-RefusalsAreTold = IsRefused (Flow c) start (at two 1 [] line) 3
-    × (¬ (IsRefused (Flow c) start (at two 1 [] line) 4))
-    × (¬ (IsRefused (Flow a) start (at two 1 [] line) 3))
-    × (¬ (IsRefused (Flow c) start (at two 0 [] line) 3))
-    × (¬ (IsRefused (Flow c) start (at (two_with None) 1 [] line) 3))
-    × (¬ (IsRefused (Flow c) start (at two 1 (10 ∷ []) line) 3))
-    × (¬ (IsRefused (Flow c) start (at two 1 [] []) 3))
-    × (¬ (IsRefused (Flow c) start (at two 1 [] (codes "affc: read a\n")) 3))
+RefusalsAreTold = IsRefused (Flow c) start (at two (of_c ∷ []) [] line) 3
+    × (¬ (IsRefused (Flow c) start (at two (of_c ∷ []) [] line) 4))
+    × (¬ (IsRefused (Flow a) start (at two ((a, Err read.Missing) ∷ []) [] line) 3))
+    × (¬ (IsRefused (Flow c) start (at two [] [] line) 3))
+    × (¬ (IsRefused (Flow c) start (at two ((c, Err read.Long) ∷ []) [] line) 3))
+    × (¬ (IsRefused (Flow c) start (at (two_with None) (of_c ∷ []) [] line) 3))
+    × (¬ (IsRefused (Flow c) start (at two (of_c ∷ []) (10 ∷ []) line) 3))
+    × (¬ (IsRefused (Flow c) start (at two (of_c ∷ []) [] []) 3))
+    × (¬ (IsRefused (Flow c) start (at two (of_c ∷ []) [] (codes "affc: read a\n")) 3))
+
+-- `fold a c`: c is told behind the read of a, which answered; not where that failed, whatever the read of c answered, and not where a
+-- wasn't read
+abbrev pub UnreadIsToldBehind : Type 0
+UnreadIsToldBehind = IsRefused (Fold a (Some c) plain None) start (at two (of_a ∷ of_c ∷ []) [] line) 3
+    × (¬ (IsRefused (Fold a (Some c) plain None) start (beside two 1 ((a, Err read.Failed) ∷ of_c ∷ []) [] line) 3))
+    × (¬ (IsRefused (Fold a (Some c) plain None) start (beside two 1 ((a, Err read.Failed) ∷ []) [] line) 3))
+    × (¬ (IsRefused (Fold a (Some c) plain None) start (at two (of_c ∷ []) [] line) 3))
 
 -- ---- Costs, and the lines of `big`
 

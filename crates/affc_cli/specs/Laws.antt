@@ -1,9 +1,11 @@
 -- What the program promises, in the words of its user: when it has to succeed, and what a folded text is.
-use Rattle.std.specs.Prelude.{◌≡◌, ◌≢◌, ◌≤◌, ◌⊎◌, ℕ, ℤ, List, length, Option, None, Some, slice_get}
+use Rattle.std.specs.Prelude.{◌≡◌, ◌≢◌, ◌≤◌, ◌⊎◌, ◌++◌, ℕ, ℤ, List, [], ◌∷◌, length, Option, None, Some, Ok, Err, codes, slice_get}
 use Rattle.affc_io.specs.Count.{Rose}
 use Rattle.affc_io.specs.Files.{Holds, held_under}
+use Rattle.affc_io.specs.Reads.{Read}
 use Rattle.affc_io.specs.State.{Files}
 use Rattle.affc_io.specs.Taken.{grown}
+use Rattle.affc_io.specs.declared.folder.ReadFault.{ReadFault}
 use Rattle.affc_io.specs.declared.folder.TheConstants.{LONGEST_READ}
 use Rattle.affc_ast.specs.declared.tree.ArrayId.{ArrayId}
 use Rattle.affc_ast.specs.declared.tree.Program.{Program}
@@ -29,12 +31,14 @@ use Rattle.affc_driver.specs.Reports.{report_text}
 use Rattle.affc_replay.specs.Laws.{IsValid}
 use Rattle.affc_words.specs.declared.words.Settings.{Settings}
 use Rattle.affc_words.specs.Command.{Command, Fold as FoldBy, Replay, Run, Flow, command_of}
-use Rattle.affc_lines.specs.Lines.{status_of, line_of}
+use Rattle.affc_lines.specs.Lines.{status_of, unread_words, line_of}
 use Rattle.affc_lines.specs.Told.{Told}
 use Rattle.affc_lines.specs.declared.refusal.Refusal.{Refusal}
+use Rattle.affc_lines.specs.declared.refusal.UnreadWhy.{UnreadWhy}
 use Rattle.affc_cli.specs.Budgets.{answers_of}
-use Rattle.affc_cli.specs.Outside.{Outside}
-use Rattle.affc_cli.specs.Promise.{Serves, written_file}
+use Rattle.affc_cli.specs.Outside.{Outside, IsRead, answered}
+use Rattle.affc_cli.specs.Promise.{Serves, written_file, names_of}
+use Rattle.affc_cli.specs.Refusal.{IsWhy}
 use Rattle.affc_cli.specs.Run.{Runnable, outcome}
 
 -- ---- A call, its files and its faults
@@ -156,6 +160,12 @@ OutputsAreKept = (command : Command) (source : List ℕ) (schedule : Option (Lis
     → Compiling command source schedule → IsServed command before now 0 → held_under before.folder.held source ≡ Some source_text
     → (text : List ℕ) × ((now.out.taken ≡ grown before.out.taken text) × KeepsOutputs text source_text)
 
+-- The same of the source text that the first read of the call answered, whether or not the folder tells what it holds.
+abbrev pub OutputsAreKeptAsRead : Type 0
+OutputsAreKeptAsRead = (command : Command) (source : List ℕ) (schedule : Option (List ℕ)) (before now : Outside) (source_text : List ℕ) (others : List Read)
+    → Compiling command source schedule → IsServed command before now 0 → IsRead ((source, Ok source_text) ∷ others) before.folder now.folder
+    → (text : List ℕ) × ((now.out.taken ≡ grown before.out.taken text) × KeepsOutputs text source_text)
+
 -- The text's stores are the source's, in the order of the plan that the schedule reads as, each at its place by folds that the report
 -- shows.
 pub record KeepsStores (text report source_text : List ℕ) (order : Option (List ℕ)) : Type 0 where
@@ -177,6 +187,32 @@ StoresFollow = (command : Command) (source : List ℕ) (schedule : Option (List 
     → Compiling command source schedule → IsServed command before now 0
     → IsGiven before.folder.held source source_text → IsGivenAny before.folder.held schedule order
     → (text : List ℕ) × ((report : List ℕ) × ((now.out.taken ≡ grown before.out.taken text) × ((now.err.taken ≡ grown before.err.taken report) × KeepsStores text report source_text order)))
+
+-- ---- Files that aren't read
+
+-- Of these files, in their order, this is the first that wasn't read: the reads of the call are those of the files in front of it, which
+-- answered, and its own, which didn't; and the error stream got the line that names it and says why.
+pub record IsUnreadTold (names : List (List ℕ)) (before now : Outside) : Type 0 where
+  pub front : List (List ℕ)
+  pub name : List ℕ
+  pub others : List (List ℕ)
+  pub order : names ≡ front ++ name ∷ others
+  pub texts : List (List ℕ)
+  pub each : length texts ≡ length front
+  pub fault : ReadFault
+  pub reads : IsRead (answered front texts ++ (name, Err fault) ∷ []) before.folder now.folder
+  pub why : UnreadWhy
+  pub is_why : IsWhy why fault
+  pub told : Told before.err.taken before.err now.err (unread_words why ++ name ++ codes "\n")
+
+-- Status 3 tells the first file of the command that wasn't read: those in front of it were.
+abbrev pub UnreadIsFirst : Type 0
+UnreadIsFirst = (command : Command) (before now : Outside) → IsServed command before now 3 → IsUnreadTold (names_of command) before now
+
+-- Where the last read of the call didn't answer, the command ends with status 3, or memory is short.
+abbrev pub UnreadIsTold : Type 0
+UnreadIsTold = (command : Command) (before now : Outside) (status : ℕ) (reads : List Read) (name : List ℕ) (fault : ReadFault)
+    → IsServed command before now status → IsRead (reads ++ (name, Err fault) ∷ []) before.folder now.folder → (status ≡ 3) ⊎ (status ≡ 9)
 
 -- ---- What is left as it was
 

@@ -1,8 +1,9 @@
 -- The outside at one moment, and what becomes of it in a call.
-use Rattle.std.specs.Prelude.{◌≡◌, ◌≢◌, ◌≤◌, ℕ, zero, suc, List, Option, Some, None, is_some}
-use Rattle.affc_io.specs.Count.{raised}
+use Rattle.std.specs.Prelude.{◌≡◌, ◌≢◌, ◌≤◌, ◌++◌, ℕ, List, [], ◌∷◌, Option, Some, None, Result, Ok, Err, is_some}
 use Rattle.affc_io.specs.Files.{held_under}
+use Rattle.affc_io.specs.Reads.{Read}
 use Rattle.affc_io.specs.State.{Files, FolderState, SinkState, SinkCounts}
+use Rattle.affc_io.specs.declared.folder.ReadFault.{ReadFault}
 
 -- The folder and the two standard streams.
 pub record Outside : Type 0 where
@@ -38,15 +39,26 @@ pub record KeepsBut (file : Option (List ℕ)) (before now : FolderState) : Type
   pub shortages : before.shortages ≤ now.shortages
   pub reads : now.reads ≡ before.reads
 
--- the count of reads after so many more
-abbrev pub reads_after : (times : ℕ) → (reads : ℕ) → ℕ
-reads_after zero reads = reads
-reads_after (suc times) reads = raised (reads_after times reads)
+-- The reads of this call, in order, and what each answered.
+abbrev pub IsRead : (reads : List Read) → FolderState → FolderState → Type 0
+IsRead reads before now = now.reads ≡ before.reads ++ reads
 
--- In this call the folder was read so many times.
-abbrev pub IsRead : (times : ℕ) → FolderState → FolderState → Type 0
-IsRead times before now = now.reads ≡ reads_after times before.reads
+-- reads of these names that answered these texts
+abbrev pub answered : (names texts : List (List ℕ)) → List Read
+answered (name ∷ names) (text ∷ texts) = (name, Ok text) ∷ answered names texts
+answered _ _ = []
 
--- In this call the folder was read at most so many times.
-abbrev pub IsReadAtMost : (most : ℕ) → FolderState → FolderState → Type 0
-IsReadAtMost most before now = (times : ℕ) × ((times ≤ most) × IsRead times before now)
+-- what has to hold behind a read: the first where it answered, and the second where it didn't
+abbrev pub Behind : Result (List ℕ) ReadFault → (text_read failed : Type 0) → Type 0
+Behind (Ok text) text_read failed = text_read
+Behind (Err fault) text_read failed = failed
+
+-- They are reads of these names from the first on, each once and in their order, and none is behind one that didn't answer.
+abbrev pub AreInOrder : (names : List (List ℕ)) → (reads : List Read) → Type 0
+AreInOrder names [] = Unit {0}
+AreInOrder [] (read ∷ reads) = ⊥
+AreInOrder (name ∷ names) (read ∷ reads) = (read.0 ≡ name) × Behind read.1 (AreInOrder names reads) (reads ≡ [])
+
+-- The reads of this call are of these names, in their order, and end with the first that didn't answer, if not before.
+abbrev pub IsReadInOrder : (names : List (List ℕ)) → FolderState → FolderState → Type 0
+IsReadInOrder names before now = (reads : List Read) × (AreInOrder names reads × IsRead reads before now)

@@ -8,7 +8,7 @@ use Rattle.std.specs.declared.io.ErrorKind.TheVariants.{OutOfMemory}
 use Rattle.affc_io.specs.Count.{Rose}
 use Rattle.affc_io.specs.Files.{Holds, IsLeft}
 use Rattle.affc_io.specs.Front.{IsFront}
-use Rattle.affc_io.specs.State.{Files, FolderState}
+use Rattle.affc_io.specs.State.{FolderState}
 use Rattle.affc_io.specs.Taken.{grown}
 use Rattle.affc_driver.specs.Flows.{FlowsTo}
 use Rattle.affc_replay.specs.Replays.{ReplaysTo}
@@ -16,56 +16,52 @@ use Rattle.affc_words.specs.declared.words.Settings.{Settings}
 use Rattle.affc_words.specs.Command.{Command, Fold, Replay, Run, Flow, Big, command_of, texts_of}
 use Rattle.affc_cli.specs.Big.{SumsUp, BigCause}
 use Rattle.affc_cli.specs.Budgets.{FoldMakes}
-use Rattle.affc_cli.specs.Outside.{Outside, Keeps, IsRead, IsReadAtMost}
+use Rattle.affc_cli.specs.Outside.{Outside, Keeps, IsRead, IsReadInOrder}
 use Rattle.affc_lines.specs.Told.{Told}
 use Rattle.affc_lines.specs.Lines.{status_of, line_of}
-use Rattle.affc_cli.specs.Refusal.{FoldTexts, FoldCause, fold_file, FlowCause, HeldTexts, RunCause, file_of, ReplayTexts, ReplayCause, replay_file}
+use Rattle.affc_cli.specs.Refusal.{FoldTexts, FoldCause, fold_file, FlowText, FlowCause, RunTexts, RunCause, file_of, ReplayTexts, ReplayCause, replay_file}
 use Rattle.affc_cli.specs.Run.{RunsTo}
-use Rattle.affc_lines.specs.declared.refusal.Operand.TheVariants as operand
 use Rattle.affc_lines.specs.declared.refusal.Refusal.{Refusal}
-use Rattle.affc_lines.specs.declared.refusal.Refusal.TheVariants.{Words, Unread, Memory}
+use Rattle.affc_lines.specs.declared.refusal.Refusal.TheVariants.{Words, Memory}
 
 -- ---- What each command makes
 
--- Text and report are what is made of the source and the schedule that the names held, where the folder tells what it holds,
--- by these settings, with a certificate where a file is named for it.
-pub record FoldPromises (source : List ℕ) (schedule : Option (List ℕ)) (settings : Settings) (file : Option (List ℕ)) (held : Option Files) (certificate text report : List ℕ) : Type 0 where
-  pub texts : FoldTexts held source schedule
+-- Text and report are what is made of the source and the schedule that were read, by these settings, with a certificate where a file
+-- is named for it.
+pub record FoldPromises (source : List ℕ) (schedule : Option (List ℕ)) (settings : Settings) (file : Option (List ℕ)) (before now : FolderState) (certificate text report : List ℕ) : Type 0 where
+  pub texts : FoldTexts before now source schedule
   pub makes : FoldMakes file texts.source_text texts.schedule_text settings certificate text report
 
--- Text and report are what the certificate shows of the source and the schedule, all three as the names held them, where the folder
--- tells what it holds.
-pub record ReplayPromises (source schedule certificate : List ℕ) (held : Option Files) (text report : List ℕ) : Type 0 where
-  pub texts : ReplayTexts held source schedule certificate
+-- Text and report are what the certificate shows of the source and the schedule, all three as they were read.
+pub record ReplayPromises (source schedule certificate : List ℕ) (before now : FolderState) (text report : List ℕ) : Type 0 where
+  pub texts : ReplayTexts before now source schedule certificate
   pub replays_to : ReplaysTo texts.source_text texts.schedule_text texts.certificate_text text report
 
--- The text is what the output arrays hold when the source that one name held has run on the data text that the other
--- held, where the folder tells what it holds; the report is empty.
-pub record RunPromises (source feed : List ℕ) (limit : ℕ) (held : Option Files) (text report : List ℕ) : Type 0 where
-  pub texts : HeldTexts held source feed
+-- The text is what the output arrays hold when the source that was read has run on the data text that was read; the report is empty.
+pub record RunPromises (source feed : List ℕ) (limit : ℕ) (before now : FolderState) (text report : List ℕ) : Type 0 where
+  pub texts : RunTexts before now source feed
   pub runs_to : RunsTo texts.source_text texts.feed_text limit text
   pub no_report : report ≡ []
 
--- The text tells the last-write trees of the source that the name held, where the folder tells what it holds; the report is
--- empty.
-pub record FlowPromises (source : List ℕ) (held : Option Files) (text report : List ℕ) : Type 0 where
-  pub source_text : List ℕ
-  pub source_held : Holds held source source_text
-  pub flows_to : FlowsTo source_text text
+-- The text tells the last-write trees of the source that was read; the report is empty.
+pub record FlowPromises (source : List ℕ) (before now : FolderState) (text report : List ℕ) : Type 0 where
+  pub texts : FlowText before now source
+  pub flows_to : FlowsTo texts.source_text text
   pub no_report : report ≡ []
 
--- The text sums up what is made of a pipeline of so many stages; the report is empty.
-pub record BigPromises (stages : ℕ) (text report : List ℕ) : Type 0 where
+-- Nothing was read, and the text sums up what is made of a pipeline of so many stages; the report is empty.
+pub record BigPromises (stages : ℕ) (before now : FolderState) (text report : List ℕ) : Type 0 where
+  pub reads : IsRead [] before now
   pub sums_up : SumsUp stages text
   pub no_report : report ≡ []
 
 -- The pieces of status 0: the certificate for its file, where one is named, then the text for out, then the report for err.
-abbrev pub Promises : Command → Option Files → (certificate text report : List ℕ) → Type 0
-Promises (Fold source schedule settings file) held certificate text report = FoldPromises source schedule settings file held certificate text report
-Promises (Replay source schedule shown) held certificate text report = ReplayPromises source schedule shown held text report
-Promises (Run source feed limit) held certificate text report = RunPromises source feed limit held text report
-Promises (Flow source) held certificate text report = FlowPromises source held text report
-Promises (Big stages) held certificate text report = BigPromises stages text report
+abbrev pub Promises : Command → (before now : FolderState) → (certificate text report : List ℕ) → Type 0
+Promises (Fold source schedule settings file) before now certificate text report = FoldPromises source schedule settings file before now certificate text report
+Promises (Replay source schedule shown) before now certificate text report = ReplayPromises source schedule shown before now text report
+Promises (Run source feed limit) before now certificate text report = RunPromises source feed limit before now text report
+Promises (Flow source) before now certificate text report = FlowPromises source before now text report
+Promises (Big stages) before now certificate text report = BigPromises stages before now text report
 
 -- The file that a command writes: that of the certificate, where it is named.
 abbrev pub written_file : Command → Option (List ℕ)
@@ -88,27 +84,14 @@ refusal_line (Run source feed limit) refusal = line_of refusal (file_of refusal 
 refusal_line (Flow source) refusal = line_of refusal source
 refusal_line (Big stages) refusal = line_of refusal []
 
--- How many files a command reads.
-abbrev pub files_of : Command → ℕ
-files_of (Fold source None settings file) = 1
-files_of (Fold source (Some schedule) settings file) = 2
-files_of (Replay source schedule certificate) = 3
-files_of (Run source feed limit) = 2
-files_of (Flow source) = 1
-files_of (Big stages) = 0
-
--- How often a command that is refused so reads the folder: it stops at the first of its files that isn't read.
-abbrev pub reads_of : Command → Refusal → ℕ
-reads_of (Fold source None settings file) refusal = 1
-reads_of (Fold source (Some schedule) settings file) (Unread operand.Source why) = 1
-reads_of (Fold source (Some schedule) settings file) refusal = 2
-reads_of (Replay source schedule certificate) (Unread operand.Source why) = 1
-reads_of (Replay source schedule certificate) (Unread operand.Schedule why) = 2
-reads_of (Replay source schedule certificate) refusal = 3
-reads_of (Run source feed limit) (Unread operand.Source why) = 1
-reads_of (Run source feed limit) refusal = 2
-reads_of (Flow source) refusal = 1
-reads_of (Big stages) refusal = 0
+-- The files that a command reads, in order.
+abbrev pub names_of : Command → List (List ℕ)
+names_of (Fold source None settings file) = source ∷ []
+names_of (Fold source (Some schedule) settings file) = source ∷ schedule ∷ []
+names_of (Replay source schedule certificate) = source ∷ schedule ∷ certificate ∷ []
+names_of (Run source feed limit) = source ∷ feed ∷ []
+names_of (Flow source) = source ∷ []
+names_of (Big stages) = []
 
 -- When a command is refused so.
 abbrev pub Cause : Command → Refusal → FolderState → FolderState → Type 0
@@ -116,17 +99,16 @@ Cause (Fold source schedule settings file) refusal before now = FoldCause refusa
 Cause (Replay source schedule certificate) refusal before now = ReplayCause refusal source schedule certificate before now
 Cause (Run source feed limit) refusal before now = RunCause refusal source feed limit before now
 Cause (Flow source) refusal before now = FlowCause refusal source before now
-Cause (Big stages) refusal before now = BigCause stages refusal
+Cause (Big stages) refusal before now = IsRead [] before now × BigCause stages refusal
 
 -- ---- How far the pieces are written
 
--- Each file was read once, and these are the pieces that the command makes.
+-- These are the pieces that the command makes of what it read.
 pub record Makes (command : Command) (before now : Outside) : Type 0 where
   pub certificate : List ℕ
   pub text : List ℕ
   pub report : List ℕ
-  pub promised : Promises command before.folder.held certificate text report
-  pub reads : IsRead (files_of command) before.folder now.folder
+  pub promised : Promises command before.folder now.folder certificate text report
 
 -- the file holds the certificate, where one is named
 abbrev pub IsFiled : (file : Option (List ℕ)) → (certificate : List ℕ) → FolderState → Type 0
@@ -173,14 +155,13 @@ pub record IsRefused (command : Command) (before now : Outside) (status : ℕ) :
   pub refusal : Refusal
   pub is_status : status ≡ status_of refusal
   pub cause : Cause command refusal before.folder now.folder
-  pub reads : IsRead (reads_of command refusal) before.folder now.folder
   pub names : now.folder.held ≡ before.folder.held
   pub out : now.out.taken ≡ before.out.taken
   pub told : Told before.err.taken before.err now.err (refusal_line command refusal)
 
 -- Memory was short before the first piece was begun; no file was written, nothing went to out, and err got the line.
 pub record ShortBefore (command : Command) (before now : Outside) : Type 0 where
-  pub reads : IsReadAtMost (files_of command) before.folder now.folder
+  pub reads : IsReadInOrder (names_of command) before.folder now.folder
   pub names : now.folder.held ≡ before.folder.held
   pub out : now.out.taken ≡ before.out.taken
   pub told : Told before.err.taken before.err now.err (line_of Memory [])

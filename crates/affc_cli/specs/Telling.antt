@@ -1,20 +1,21 @@
 -- How a command ends at the folder and the two sinks.
-use Rattle.std.specs.Prelude.{◌≡◌, ◌≢◌, ◌⊎◌, ℕ, List, [], Option, Some, None, Result, Ok, Err}
+use Rattle.std.specs.Prelude.{◌≡◌, ◌≢◌, ◌⊎◌, ℕ, List, [], ◌∷◌, Option, Some, None, Result, Ok, Err}
 use Rattle.affc_io.specs.Count.{Rose}
 use Rattle.affc_io.specs.Files.{Holds, IsLeft}
 use Rattle.affc_io.specs.Front.{IsFront}
 use Rattle.affc_io.specs.State.{FolderState, SinkState}
+use Rattle.affc_io.specs.declared.folder.ReadFault.{ReadFault}
+use Rattle.affc_io.specs.declared.folder.ReadFault.TheVariants as read
 use Rattle.affc_io.specs.Taken.{grown}
 use Rattle.affc_lines.specs.Told.{Told, IsTold}
-use Rattle.affc_cli.specs.Outside.{IsRead, IsReadAtMost}
-use Rattle.affc_words.specs.Command.{Command}
-use Rattle.affc_cli.specs.Promise.{files_of, reads_of}
+use Rattle.affc_cli.specs.Outside.{IsRead}
 use Rattle.affc_lines.specs.Lines.{line_of}
-use Rattle.affc_cli.specs.Refusal.{IsUnread}
+use Rattle.affc_cli.specs.Refusal.{IsFirstUnread}
 use Rattle.affc_cli.specs.declared.pieces.Pieces.{Pieces}
 use Rattle.affc_lines.specs.declared.refusal.Operand.{Operand}
 use Rattle.affc_lines.specs.declared.refusal.Refusal.{Refusal}
 use Rattle.affc_lines.specs.declared.refusal.Refusal.TheVariants.{Unread, Memory}
+use Rattle.affc_lines.specs.declared.refusal.UnreadWhy.TheVariants.{Unreadable, Long}
 
 -- ---- Text and report
 
@@ -122,13 +123,19 @@ EndsWith (Some file) made name before now out now_out err now_err status = EndsF
 
 -- ---- Reading a file
 
--- when this file isn't read, and the command is refused so; want of memory may come at any time
-abbrev pub UnheldCause : Operand → Refusal → (name : List ℕ) → FolderState → FolderState → Type 0
-UnheldCause file (Unread which why) name before now = (which ≡ file) × IsUnread why name before now
-UnheldCause file Memory name before now = Unit {0}
-UnheldCause file _ name before now = ⊥
+-- the name was read once, and this was answered
+abbrev pub IsReadOnce : (name : List ℕ) → FolderState → FolderState → Type 0
+IsReadOnce name before now = (answer : Result (List ℕ) ReadFault) × IsRead ((name, answer) ∷ []) before now
 
--- how often the folder was read when a command is refused so; want of memory may come at any time
-pub record HasRead (command : Command) (refusal : Refusal) (before now : FolderState) : Type 0 where
-  pub exact : refusal ≢ Memory → IsRead (reads_of command refusal) before now
-  pub few : IsReadAtMost (files_of command) before now
+-- the refusal of this file, whose read answered the fault
+abbrev pub unread_as : Operand → ReadFault → Refusal
+unread_as file read.Failed = Unread file Unreadable
+unread_as file read.Missing = Unread file Unreadable
+unread_as file read.Long = Unread file Long
+unread_as file read.Memory = Memory
+
+-- when this file isn't read behind those in front, and the command is refused so; want of memory may come at any time
+abbrev pub UnheldCause : Operand → Refusal → (front : List (List ℕ)) → (name : List ℕ) → FolderState → FolderState → Type 0
+UnheldCause file (Unread which why) front name before now = (which ≡ file) × IsFirstUnread why front name before now
+UnheldCause file Memory front name before now = Unit {0}
+UnheldCause file _ front name before now = ⊥

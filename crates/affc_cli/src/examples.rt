@@ -1,5 +1,5 @@
 //! A folder of two files, as laws: `specs/Examples.antt` says each.
-ghost use Rattle.affc_cli.specs.Examples.{NoNameIsNoText, PromisedOfWhatWasHeld, WhoEndsWithWhat, ReadsStopAtTheFirst, RefusalsAreTold, CostsByName, EightStages};
+ghost use Rattle.affc_cli.specs.Examples.{NoNameIsNoText, PromisedOfWhatWasHeld, WhoEndsWithWhat, FilesInOrder, ReadsStopAtTheFirst, RefusalsAreTold, UnreadIsToldBehind, CostsByName, EightStages};
 
 /// What is held, and what is promised of it.
 pub fn held()
@@ -10,8 +10,10 @@ pub fn held()
 /// Statuses, reads and a refusal.
 pub fn ends()
     ensures who_ends_with_what { WhoEndsWithWhat }
+    ensures files_in_order { FilesInOrder }
     ensures reads_stop_at_the_first { ReadsStopAtTheFirst }
     ensures refusals_are_told { RefusalsAreTold }
+    ensures unread_is_told_behind { UnreadIsToldBehind }
 {}
 
 /// Costs by their names, and the lines of `big`.

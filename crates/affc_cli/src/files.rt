@@ -1,13 +1,12 @@
 //! Reading the files that a command names.
-ghost use Rattle.std.specs.Prelude.{◌≡◌, ◌≤◌, length, Some, None, IfOk, IfErr, OnOk, option_map};
+ghost use Rattle.std.specs.Prelude.{◌≡◌, ◌≤◌, ◌∷◌, [], length, Some, None, Ok, IfOk, IfErr, option_map};
 ghost use Rattle.affc_io.specs.Files.{Holds};
 ghost use Rattle.affc_io.specs.State.{FolderKeeps};
 ghost use Rattle.affc_io.specs.declared.folder.TheConstants.{LONGEST_READ};
-ghost use Rattle.affc_words.specs.Command.{Fold, Replay, Run};
-ghost use Rattle.affc_cli.specs.Outside.{IsRead};
+ghost use Rattle.affc_cli.specs.Outside.{IsRead, IsReadInOrder};
 ghost use Rattle.affc_cli.specs.Promise.{FoldPromises, ReplayPromises, RunPromises, FlowPromises};
 ghost use Rattle.affc_cli.specs.Refusal.{FoldCause, ReplayCause, RunCause, FlowCause, fold_file, replay_file, file_of};
-ghost use Rattle.affc_cli.specs.Telling.{HasRead, UnheldCause};
+ghost use Rattle.affc_cli.specs.Telling.{IsReadOnce, UnheldCause, unread_as};
 
 use crate::fold::fold;
 use crate::pieces::Pieces;
@@ -19,6 +18,23 @@ use affc_lines::refusal::{Operand, Refusal, UnreadWhy};
 use affc_words::words::Settings;
 use std::alloc::Global;
 
+// The refusal of this file, whose read answered the fault.
+fn unread(file: Operand, fault: ReadFault) -> Refusal
+    ensures { result ≡ unread_as file fault }
+{
+    match fault {
+        ReadFault::Memory => Refusal::Memory,
+        ReadFault::Long => Refusal::Unread {
+            file,
+            why: UnreadWhy::Long,
+        },
+        ReadFault::Missing | ReadFault::Failed => Refusal::Unread {
+            file,
+            why: UnreadWhy::Unreadable,
+        },
+    }
+}
+
 // What the folder has under the name, which is that of this file.
 fn contents_of<F: Folder>(
     alloc: Global,
@@ -27,23 +43,16 @@ fn contents_of<F: Folder>(
     folder: &mut F,
 ) -> Result<Vec<u8>, Refusal>
     ensures keeps { FolderKeeps (F.state folder.old) (F.state folder.new) }
-    ensures reads { IsRead 1 (F.state folder.old) (F.state folder.new) }
+    ensures once { IsReadOnce name.now (F.state folder.old) (F.state folder.new) }
+    ensures read { IfOk result (λ text. IsRead ((name.now, Ok text.items) ∷ []) (F.state folder.old) (F.state folder.new)) }
     ensures ok { IfOk result (λ text. Holds (F.state folder.old).held name.now text.items) }
     ensures fits { IfOk result (λ text. length text.items ≤ LONGEST_READ) }
     ensures err { IfErr result (λ refusal.
-        UnheldCause file refusal name.now (F.state folder.old) (F.state folder.new)) }
+        UnheldCause file refusal [] name.now (F.state folder.old) (F.state folder.new)) }
 {
     match folder.read(alloc, name) {
         Ok(text) => Ok(text),
-        Err(ReadFault::Memory) => Err(Refusal::Memory),
-        Err(ReadFault::Long) => Err(Refusal::Unread {
-            file,
-            why: UnreadWhy::Long,
-        }),
-        Err(ReadFault::Missing) | Err(ReadFault::Failed) => Err(Refusal::Unread {
-            file,
-            why: UnreadWhy::Unreadable,
-        }),
+        Err(fault) => Err(unread(file, fault)),
     }
 }
 
@@ -56,8 +65,8 @@ pub fn folded_alone<F: Folder>(
     folder: &mut F,
 ) -> Result<Pieces, Refusal>
     ensures keeps { FolderKeeps (F.state folder.old) (F.state folder.new) }
-    ensures reads { IsRead 1 (F.state folder.old) (F.state folder.new) }
-    ensures ok { IfOk result (λ made. FoldPromises source.now None settings (option_map (λ s. s.now) file.entry) (F.state folder.old).held
+    ensures reads { IsReadInOrder (source.now ∷ []) (F.state folder.old) (F.state folder.new) }
+    ensures ok { IfOk result (λ made. FoldPromises source.now None settings (option_map (λ s. s.now) file.entry) (F.state folder.old) (F.state folder.new)
         made.certificate.items made.text.items made.report.items) }
     ensures err { IfErr result (λ refusal. FoldCause refusal source.now None settings (F.state folder.old) (F.state folder.new)) }
 {
@@ -75,12 +84,10 @@ pub fn folded_by<F: Folder>(
     folder: &mut F,
 ) -> Result<Pieces, Refusal>
     ensures keeps { FolderKeeps (F.state folder.old) (F.state folder.new) }
-    ensures reads { OnOk result (IsRead 2 (F.state folder.old) (F.state folder.new)) }
-    ensures ok { IfOk result (λ made. FoldPromises source.now (Some schedule.now) settings (option_map (λ s. s.now) file.entry) (F.state folder.old).held
-        made.certificate.items made.text.items made.report.items) }
+    ensures reads { IsReadInOrder (source.now ∷ schedule.now ∷ []) (F.state folder.old) (F.state folder.new) }
+    ensures ok { IfOk result (λ made. FoldPromises source.now (Some schedule.now) settings (option_map (λ s. s.now) file.entry)
+        (F.state folder.old) (F.state folder.new) made.certificate.items made.text.items made.report.items) }
     ensures err { IfErr result (λ refusal. FoldCause refusal source.now (Some schedule.now) settings
-        (F.state folder.old) (F.state folder.new)) }
-    ensures err_reads { IfErr result (λ refusal. HasRead (Fold source.now (Some schedule.now) settings (option_map (λ s. s.now) file.entry)) refusal
         (F.state folder.old) (F.state folder.new)) }
 {
     let source = contents_of(alloc, Operand::Source, source, folder)?;
@@ -97,11 +104,10 @@ pub fn replayed<F: Folder>(
     folder: &mut F,
 ) -> Result<Pieces, Refusal>
     ensures keeps { FolderKeeps (F.state folder.old) (F.state folder.new) }
-    ensures reads { OnOk result (IsRead 3 (F.state folder.old) (F.state folder.new)) }
-    ensures ok { IfOk result (λ made. ReplayPromises source.now schedule.now certificate.now (F.state folder.old).held made.text.items made.report.items) }
+    ensures reads { IsReadInOrder (source.now ∷ schedule.now ∷ certificate.now ∷ []) (F.state folder.old) (F.state folder.new) }
+    ensures ok { IfOk result (λ made. ReplayPromises source.now schedule.now certificate.now
+        (F.state folder.old) (F.state folder.new) made.text.items made.report.items) }
     ensures err { IfErr result (λ refusal. ReplayCause refusal source.now schedule.now certificate.now
-        (F.state folder.old) (F.state folder.new)) }
-    ensures err_reads { IfErr result (λ refusal. HasRead (Replay source.now schedule.now certificate.now) refusal
         (F.state folder.old) (F.state folder.new)) }
 {
     let source = contents_of(alloc, Operand::Source, source, folder)?;
@@ -119,11 +125,9 @@ pub fn ran<F: Folder>(
     folder: &mut F,
 ) -> Result<Pieces, Refusal>
     ensures keeps { FolderKeeps (F.state folder.old) (F.state folder.new) }
-    ensures reads { OnOk result (IsRead 2 (F.state folder.old) (F.state folder.new)) }
-    ensures ok { IfOk result (λ made. RunPromises source.now feed.now limit (F.state folder.old).held made.text.items made.report.items) }
+    ensures reads { IsReadInOrder (source.now ∷ feed.now ∷ []) (F.state folder.old) (F.state folder.new) }
+    ensures ok { IfOk result (λ made. RunPromises source.now feed.now limit (F.state folder.old) (F.state folder.new) made.text.items made.report.items) }
     ensures err { IfErr result (λ refusal. RunCause refusal source.now feed.now limit
-        (F.state folder.old) (F.state folder.new)) }
-    ensures err_reads { IfErr result (λ refusal. HasRead (Run source.now feed.now limit) refusal
         (F.state folder.old) (F.state folder.new)) }
 {
     let source = contents_of(alloc, Operand::Source, source, folder)?;
@@ -134,8 +138,8 @@ pub fn ran<F: Folder>(
 /// The trees of the source that the folder has under the name.
 pub fn flowed<F: Folder>(alloc: Global, source: &str, folder: &mut F) -> Result<Pieces, Refusal>
     ensures keeps { FolderKeeps (F.state folder.old) (F.state folder.new) }
-    ensures reads { IsRead 1 (F.state folder.old) (F.state folder.new) }
-    ensures ok { IfOk result (λ made. FlowPromises source.now (F.state folder.old).held made.text.items made.report.items) }
+    ensures reads { IsReadInOrder (source.now ∷ []) (F.state folder.old) (F.state folder.new) }
+    ensures ok { IfOk result (λ made. FlowPromises source.now (F.state folder.old) (F.state folder.new) made.text.items made.report.items) }
     ensures err { IfErr result (λ refusal. FlowCause refusal source.now (F.state folder.old) (F.state folder.new)) }
 {
     let source = contents_of(alloc, Operand::Source, source, folder)?;

@@ -1,5 +1,5 @@
 //! What the program promises, in the words of its user. Each law is the contract of a function that does nothing.
-ghost use Rattle.affc_cli.specs.Laws.{FoldEnds, FlowEnds, ReplayEnds, CertificatesAreValid, RunEnds, OutputsAreKept, StoresFollow, WordsAreTold, OtherFilesStay, RefusalsWriteNothing};
+ghost use Rattle.affc_cli.specs.Laws.{FoldEnds, FlowEnds, ReplayEnds, CertificatesAreValid, RunEnds, OutputsAreKept, OutputsAreKeptAsRead, StoresFollow, UnreadIsFirst, UnreadIsTold, WordsAreTold, OtherFilesStay, RefusalsWriteNothing};
 
 /// `fold` ends with the whole folded, or short of memory, where the stated conditions hold.
 pub fn fold_ends()
@@ -31,9 +31,24 @@ pub fn outputs_are_kept()
     ensures law { OutputsAreKept }
 {}
 
+/// So it does of the source that was read, whether or not the folder tells what it holds.
+pub fn outputs_are_kept_as_read()
+    ensures law { OutputsAreKeptAsRead }
+{}
+
 /// Its stores are the source's, in the order of the schedule and at the places of the folds.
 pub fn stores_follow()
     ensures law { StoresFollow }
+{}
+
+/// Status 3 tells the first file that wasn't read.
+pub fn unread_is_first()
+    ensures law { UnreadIsFirst }
+{}
+
+/// Where the last read didn't answer, the status is 3, or memory is short.
+pub fn unread_is_told()
+    ensures law { UnreadIsTold }
 {}
 
 /// Status 2 says that the words are no command form.

@@ -1,9 +1,12 @@
 -- A folder of two files: what it holds, what is left of it after a write that failed, and its counts.
-use Rattle.std.specs.Prelude.{◌≡◌, ◌<◌, ◌-◌, ◌^◌, ℕ, List, [], ◌∷◌, length, Option, None, Some, if◌then◌else◌}
+use Rattle.std.specs.Prelude.{◌≡◌, ◌<◌, ◌-◌, ◌^◌, ◌⊎◌, ℕ, List, [], ◌∷◌, length, Option, None, Some, Result, Ok, Err, if◌then◌else◌}
 use Rattle.std.specs.Str.{bytes_eq}
 use Rattle.affc_io.specs.Count.{Rose, StaysWhereTold}
 use Rattle.affc_io.specs.Files.{Holds, NotHeld, TooLong, IsLeft}
+use Rattle.affc_io.specs.Reads.{Read}
 use Rattle.affc_io.specs.State.{Files, FolderState}
+use Rattle.affc_io.specs.declared.folder.ReadFault.{ReadFault}
+use Rattle.affc_io.specs.declared.folder.ReadFault.TheVariants.{Failed, Missing, Memory}
 use Rattle.affc_io.specs.declared.folder.TheConstants.{LONGEST_READ}
 
 abbrev pub a : List ℕ
@@ -24,7 +27,7 @@ two = two_with (Some (7 ∷ 8 ∷ []))
 
 -- a folder that tells what it holds, or doesn't, and has counted so many faults
 abbrev pub folder : Option Files → (faults : ℕ) → FolderState
-folder held faults = record { held = held; faults = faults; shortages = 0; reads = 0 }
+folder held faults = record { held = held; faults = faults; shortages = 0; reads = [] }
 
 -- ---- What is held
 
@@ -60,3 +63,14 @@ CountsRiseToTheirEnd = Rose 0 1 × (¬ (Rose 1 1)) × (¬ (Rose 1 0)) × Rose (2
 
 abbrev pub StaysOnlyWhereTold : Type 0
 StaysOnlyWhereTold = StaysWhereTold (Some two) 3 3 × (¬ (StaysWhereTold (Some two) 3 4)) × StaysWhereTold {A = Files} None 3 4
+
+-- ---- Reads
+
+-- this was answered, or want of memory
+abbrev pub IsOrShort : Result (List ℕ) ReadFault → Result (List ℕ) ReadFault → Type 0
+IsOrShort wanted answer = (answer ≡ wanted) ⊎ (answer ≡ Err Memory)
+
+-- in their order: all that `a` holds, that the read of `b` failed, though it is held, and that `c` isn't
+abbrev pub AreThreeReads : List Read → Type 0
+AreThreeReads reads = (first third : Result (List ℕ) ReadFault)
+    × ((reads ≡ (a, first) ∷ (b, Err Failed) ∷ (c, third) ∷ []) × (IsOrShort (Ok (7 ∷ 8 ∷ [])) first × IsOrShort (Err Missing) third))

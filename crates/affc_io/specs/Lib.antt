@@ -4,6 +4,7 @@ pub mod Files
 pub mod Front
 pub mod Memory
 pub mod Put
+pub mod Reads
 pub mod State
 pub mod Parts
 pub mod Taken

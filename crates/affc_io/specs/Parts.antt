@@ -2,6 +2,7 @@
 use Rattle.std.specs.Prelude.{ℕ, List, [], ◌==◌, Bool, min, Option, None, Some, if◌then◌else◌}
 use Rattle.std.specs.List.{list_any}
 use Rattle.affc_io.specs.Memory.{NamedFile, held_in}
+use Rattle.affc_io.specs.Reads.{Read}
 use Rattle.affc_io.specs.State.{FolderState, SinkState}
 use Rattle.affc_io.specs.declared.memory.MemFolder.{MemFolder}
 use Rattle.affc_io.specs.declared.memory.MemSink.{MemSink}
@@ -25,11 +26,11 @@ folder_faults folder = folder.faults
 abbrev pub folder_shortages : MemFolder → ℕ
 folder_shortages folder = folder.shortages
 
--- how many reads there were
-abbrev pub folder_reads : MemFolder → ℕ
-folder_reads folder = folder.reads
+-- what each read answered, in order
+abbrev pub folder_reads : MemFolder → List Read
+folder_reads folder = folder.log.reads
 
--- what it tells: what its names hold, and its counts
+-- what it tells: what its names hold, its counts, and its reads
 abbrev pub folder_state : MemFolder → FolderState
 folder_state folder = record {
   held = Some (held_in (folder_files folder));

@@ -1,17 +1,18 @@
 -- What a folder or a sink is at one moment, and what no call of it turns back.
 use Rattle.std.specs.Prelude.{◌≡◌, ◌≤◌, ℕ, List, Option}
+use Rattle.affc_io.specs.Reads.{Read}
 
 -- what each name holds: a list of bytes, or nothing
 abbrev pub Files : Type 0
 Files = List ℕ → Option (List ℕ)
 
 -- A folder: what its names hold, where it tells that, how many faults it has counted, how many calls have answered
--- want of memory, and how many reads there were.
+-- want of memory, and what each read answered, in order.
 pub record FolderState : Type 0 where
   pub held : Option Files
   pub faults : ℕ
   pub shortages : ℕ
-  pub reads : ℕ
+  pub reads : List Read
 
 -- A sink: what it has taken, where it tells that, how many faults it has counted, and how many calls have answered want
 -- of memory.

@@ -1,8 +1,9 @@
 //! A folder of named files.
 
-ghost use Rattle.std.specs.Prelude.{◌≡◌, ◌≢◌, ◌≤◌, List, ℕ, length, is_some, IfOk, IfErr, OnOk, IsErrOf};
-ghost use Rattle.affc_io.specs.Count.{Rose, StaysWhereTold, raised};
+ghost use Rattle.std.specs.Prelude.{◌≡◌, ◌≢◌, ◌≤◌, ◌∷◌, ◌++◌, [], List, ℕ, length, is_some, IfOk, IfErr, OnOk, IsErrOf};
+ghost use Rattle.affc_io.specs.Count.{Rose, StaysWhereTold};
 ghost use Rattle.affc_io.specs.Files.{held_under, NotHeld, Holds, TooLong, IsLeft};
+ghost use Rattle.affc_io.specs.Reads.{answer_of};
 ghost use Rattle.affc_io.specs.State.{FolderState, FolderKeeps};
 
 use std::alloc::Global;
@@ -33,7 +34,7 @@ pub fn longest_read()
 
 /// Files under names. Each name is any text, and holds bytes or nothing.
 pub trait Folder {
-    /// What the names hold, where the folder tells it, and what it has counted.
+    /// What the names hold, where the folder tells it, what it has counted, and what its reads answered.
     ghost state: { Self → FolderState };
 
     /// What the name holds.
@@ -51,7 +52,7 @@ pub trait Folder {
             StaysWhereTold (state self.old).held (state self.old).faults (state self.new).faults }
         // and no shortage is counted but the calls that answered it
         ensures ample { result ≢ Err ReadFault.Memory → (state self.new).shortages ≡ (state self.old).shortages }
-        ensures reads { (state self.new).reads ≡ raised (state self.old).reads };
+        ensures reads { (state self.new).reads ≡ (state self.old).reads ++ (name.now, answer_of result) ∷ [] };
 
     /// Makes the name hold the bytes.
     fn write(&mut self, name: &str, bytes: &[u8]) -> Result<(), WriteFault>

@@ -1,15 +1,16 @@
 //! A folder and two sinks in memory, which tell all that they hold. Their calls say exactly what they do.
 
-ghost use Rattle.std.specs.Prelude.{◌≡◌, ◌≢◌, ◌≤◌, ◌↔◌, ◌++◌, [], Some, None, List, ℕ, IfOk, IfErr, OnOk, IsErrOf, IsTrue, length, map};
+ghost use Rattle.std.specs.Prelude.{◌≡◌, ◌≢◌, ◌≤◌, ◌↔◌, ◌∷◌, ◌++◌, [], Some, None, List, ℕ, IfOk, IfErr, OnOk, IsErrOf, IsTrue, length, map};
 ghost use Rattle.affc_io.specs.Answers.{read_failed, read_short, write_failed, write_short, sink_failed, sink_short};
 ghost use Rattle.affc_io.specs.Count.{raised, counted};
 ghost use Rattle.affc_io.specs.Files.{IsLong};
 ghost use Rattle.affc_io.specs.Memory.{held_in, named_bytes, stored};
+ghost use Rattle.affc_io.specs.Reads.{answer_of};
 ghost use Rattle.affc_io.specs.Parts.{folder_files, folder_fails, folder_calls, folder_faults, folder_shortages, folder_reads, folder_state, mem_bytes, mem_first, mem_fails, mem_calls, mem_faults, mem_shortages, mem_state, sure_bytes, sure_shortages, sure_state, is_listed, share_of, emptied};
 ghost use Rattle.affc_io.specs.Taken.{taken_of};
 
 use crate::files::{NamedFile, empty, fetch, store};
-use crate::{Folder, LONGEST_READ, ReadFault, Sink, SinkFault, WriteFault};
+use crate::{Folder, LONGEST_READ, ReadFault, ReadLog, Sink, SinkFault, WriteFault};
 use std::alloc::Global;
 
 /// Files in memory. The calls whose numbers are listed fail, from 0.
@@ -20,7 +21,7 @@ pub struct MemFolder {
     calls: u64,
     faults: u64,
     shortages: u64,
-    reads: u64,
+    log: ReadLog,
 }
 
 impl MemFolder {
@@ -31,7 +32,7 @@ impl MemFolder {
         ensures calls { folder_calls result ≡ 0 }
         ensures faults { folder_faults result ≡ 0 }
         ensures shortages { folder_shortages result ≡ 0 }
-        ensures reads { folder_reads result ≡ 0 }
+        ensures reads { folder_reads result ≡ [] }
     {
         MemFolder {
             files,
@@ -39,7 +40,7 @@ impl MemFolder {
             calls: 0,
             faults: 0,
             shortages: 0,
-            reads: 0,
+            log: ReadLog::new(),
         }
     }
 
@@ -65,14 +66,16 @@ impl Folder for MemFolder {
         ensures calls { folder_calls self.new ≡ raised (folder_calls self.old) }
         ensures faults { folder_faults self.new ≡ counted (read_failed result) (folder_faults self.old) }
         ensures shortages { folder_shortages self.new ≡ counted (read_short result) (folder_shortages self.old) }
-        ensures reads { folder_reads self.new ≡ raised (folder_reads self.old) }
+        ensures reads { folder_reads self.new ≡ folder_reads self.old ++ (name.now, answer_of result) ∷ [] }
     {
-        self.reads = self.reads.saturating_add(1);
         if next_fails(&self.fails, &mut self.calls) {
             self.faults = self.faults.saturating_add(1);
-            return Err(ReadFault::Failed);
+            let answer = Err(ReadFault::Failed);
+            self.log.note(name, &answer);
+            return answer;
         }
         let answer = fetch(&self.files, alloc, name);
+        self.log.note(name, &answer);
         if let Err(ReadFault::Memory) = answer {
             self.shortages = self.shortages.saturating_add(1);
         }

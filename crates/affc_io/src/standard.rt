@@ -1,8 +1,8 @@
-//! The real files and streams. They tell nothing of content, and count each error.
+//! The real files and streams. They tell nothing of what is held or taken, and count each error.
 
-ghost use Rattle.std.specs.Prelude.{◌≡◌, ◌≤◌, None, IfOk, length};
+ghost use Rattle.std.specs.Prelude.{◌≡◌, ◌≤◌, [], None, IfOk, length};
 
-use crate::{Folder, LONGEST_READ, ReadFault, Sink, SinkFault, WriteFault};
+use crate::{Folder, LONGEST_READ, ReadFault, ReadLog, Sink, SinkFault, WriteFault};
 use std::alloc::Global;
 use std::io::{ErrorKind, Print, Read, Write};
 use std::rt::Files;
@@ -14,18 +14,18 @@ pub struct StdFolder<R> {
     files: R,
     faults: u64,
     shortages: u64,
-    reads: u64,
+    log: ReadLog,
 }
 
 impl<R: Files> StdFolder<R> {
     pub fn new(files: R) -> StdFolder<R>
-        ensures { ⟦<StdFolder<R> as Folder>⟧.state result ≡ record { held = None; faults = 0; shortages = 0; reads = 0 } }
+        ensures { ⟦<StdFolder<R> as Folder>⟧.state result ≡ record { held = None; faults = 0; shortages = 0; reads = [] } }
     {
         StdFolder {
             files,
             faults: 0,
             shortages: 0,
-            reads: 0,
+            log: ReadLog::new(),
         }
     }
 }
@@ -58,11 +58,11 @@ fn put<R: Files>(files: &R, name: &str, bytes: &[u8]) -> io::Result<()> {
 }
 
 impl<R: Files> Folder for StdFolder<R> {
-    ghost state = { λ f. record { held = None; faults = f.faults; shortages = f.shortages; reads = f.reads } };
+    ghost state = { λ f. record { held = None; faults = f.faults; shortages = f.shortages; reads = f.log.reads } };
 
     fn read(&mut self, alloc: Global, name: &str) -> Result<Vec<u8>, ReadFault> {
-        self.reads = self.reads.saturating_add(1);
         let answer = read_answer(contents(&self.files, alloc, name));
+        self.log.note(name, &answer);
         match answer {
             Ok(_) => {}
             Err(ReadFault::Memory) => self.shortages = self.shortages.saturating_add(1),
