@@ -1,6 +1,9 @@
 pub mod CheckLemmas
 pub mod LookLemmas
 pub mod PathLemmas
+pub mod WalkedLemmas
+pub mod KeptLemmas
+pub mod FoldLookLemmas
 pub mod AllLemmas
 pub mod Sound
 pub mod Parts

@@ -1,5 +1,5 @@
 -- The elements of a valid certificate's marks fit 64 bits.
-use Rattle.std.proofs.Common.{◌≡◌, ℕ, suc, ◌*◌, ◌^◌, ◌≤◌, ℤ, pos, negsuc, ◌+ℤ◌, ◌*ℤ◌, ◌≤ℤ◌, ◌<ℤ◌, Bool, true, false, if◌then◌else◌, IsTrue, List, [], ◌∷◌, ◌++◌, length, map, take, Option, Some, None, refl, ap, subst, ◌∙◌, inl, inr, arith, lit<}
+use Rattle.std.proofs.Common.{◌≡◌, ℕ, suc, ◌*◌, ◌^◌, ◌≤◌, ℤ, pos, negsuc, ◌+ℤ◌, ◌*ℤ◌, ◌≤ℤ◌, ◌<ℤ◌, Bool, true, false, if◌then◌else◌, IsTrue, List, [], ◌∷◌, ◌++◌, length, map, take, Option, Some, None, refl, sym, ap, subst, ◌∙◌, inl, inr, arith, lit<}
 use Rattle.std.specs.Prelude.{unsigned_abs, slice_get, int_le, int_lt, ◌&&◌}
 use Rattle.std.specs.List.{All, Contains}
 use Rattle.std.proofs.lemmas.Int.{ints, unsigned_abs-mul}
@@ -30,6 +30,7 @@ use Rattle.affc_nest.specs.Laws.{HasNest, NamesArrays, StaysWithin}
 use Rattle.affc_nest.specs.Nests.{nest_of}
 use Rattle.affc_nest.specs.Questions.{extents_or_none}
 use Rattle.affc_nest.proofs.QuestionLemmas.{extents_there}
+use Rattle.affc_sched.specs.Touched.{Each}
 use Rattle.affc_sched.specs.Legality.{IsAsked}
 use Rattle.affc_sched.proofs.LegalLemmas.{instance_of}
 use Rattle.affc_quast.specs.Seen.{trees_of}
@@ -45,12 +46,13 @@ use Rattle.affc_cert.specs.declared.cert.Cert.{Cert}
 use Rattle.affc_certvalue.specs.Limits.{IsWord}
 use Rattle.affc_certvalue.proofs.Within.{small_word}
 use Rattle.affc_certvalue.specs.declared.fold.fold.CertFold.{CertFold}
-use Rattle.affc_check.specs.list.Certs.{IsCertWithin}
+use Rattle.affc_check.specs.list.Certs.{IsCertWithin, AreFoldsSaid, AreItems}
 use Rattle.affc_check.specs.list.Items.{Item, Question, Shown, LeastShown, ModulusShown, FoldShown, is_behind, is_point_at, nothing, farthest, pair_in, pair_item, mark_items, row_items, rows_items, items}
-use Rattle.affc_check.specs.list.Walks.{fold_shown, folds_shown, IsListing}
+use Rattle.affc_check.specs.list.Limits.{HoldsOfNone}
+use Rattle.affc_check.specs.list.Passes.{FoldPasses, NonePasses}
 use Rattle.affc_check.proofs.list.Over.{are_shaped, asked_of}
 use Rattle.affc_check.specs.Laws.{IsReadFor}
-use Rattle.affc_check.specs.Made.{AreWordsAt, IsPairFit, IsMarkFit, AreRowsFit, AreFoldsFit}
+use Rattle.affc_check.specs.Made.{AreWordsAt, IsPairFit, IsMarkFit, AreRowsFit, FoldFits}
 use Rattle.affc_check.specs.Valid.{AreValid}
 use Rattle.affc_check.proofs.Marks.{nothing_shown, contained}
 use Rattle.affc_check.proofs.Parts.{fold_holds, stays_within}
@@ -188,21 +190,26 @@ module _ (nest : Nest) (systems : List PairSystem) (all : List Affine) (words : 
 
 -- ---- Folds
 
-each_fit : (cs : List CertFold) (ss : List (List PairSystem)) → ((f : FoldShown) → IsIn f (folds_shown cs ss) → AreRowsFit f.systems f.rows f.moduli) → AreFoldsFit cs ss
-each_fit [] ss h = tt
-each_fit (c ∷ cs) [] h = tt
-each_fit (c ∷ cs) (s ∷ ss) h = (h (fold_shown c s) (inl refl), each_fit cs ss (λ f i. h f (inr i)))
+each_fit : (nest : Nest) (schedule : Schedule) (trees : List Tree) (cs : List CertFold) (fs : List FoldShown) → AreFoldsSaid nest schedule trees cs fs → HoldsOfNone (FoldPasses nest schedule trees) cs
+    → ((f : FoldShown) → IsIn f fs → AreRowsFit f.systems f.rows f.moduli) → Each (FoldFits nest schedule trees) cs
+each_fit nest schedule trees [] fs said none h = tt
+each_fit nest schedule trees (c ∷ cs) [] said none h = absurd said
+each_fit nest schedule trees (c ∷ cs) (f ∷ fs) said none h = (
+  record { fits = λ large. none.none 0 c refl (inl large); fold = f; said = said.0; fit = h f (inl refl) },
+  each_fit nest schedule trees cs fs said.1 (record { none = λ k x e. none.none (suc k) x e }) (λ g i. h g (inr i)),
+)
 
-of_program : (program : Program) (schedule : Schedule) (c : Cert) (is : List Item) (ss : List (List PairSystem)) → HasNest program → NamesArrays program → IsScheduleOf program schedule
-    → IsCertWithin (nest_of program) c → IsListing (nest_of program) schedule c is ss → AreValid is c.proofs → AreFoldsFit c.folds ss
-of_program program schedule c is ss has named fits within l valid =
+of_program : (program : Program) (schedule : Schedule) (c : Cert) (is : List Item) → HasNest program → NamesArrays program → IsScheduleOf program schedule
+    → IsCertWithin (nest_of program) c → AreItems (nest_of program) schedule c is → HoldsOfNone (FoldPasses (nest_of program) schedule (trees_of c.flow)) c.folds → AreValid is c.proofs
+    → Each (FoldFits (nest_of program) schedule (trees_of c.flow)) c.folds
+of_program program schedule c is has named fits within l none valid =
     let trees = trees_of c.flow in
-    let folds = folds_shown c.folds ss in
+    let folds = l.folds in
     let r : IsReadFor program schedule trees folds = certs_are_read program schedule c folds has named fits within.certificate l.said in
     let shaped = are_shaped program trees r.shapes in
     let v : AreValid (items (nest_of program) schedule c.context trees folds) c.proofs = subst (λ is. AreValid is c.proofs) l.are valid in
     let stays = stays_within program schedule c.context trees folds c.proofs v has named in
-    each_fit c.folds ss
+    each_fit (nest_of program) schedule trees c.folds folds l.said none
     (λ f i.
     let a = r.arrays f i in
     rows_fit (nest_of program) f.systems f.rows
@@ -211,8 +218,9 @@ of_program program schedule c is ss has named fits within l valid =
     (fold_holds program schedule c.context trees folds c.proofs v f i))
 
 -- where a certificate is valid
-pub folds_fit : (nest : Nest) (schedule : Schedule) (c : Cert) (is : List Item) (ss : List (List PairSystem)) → IsAsked nest schedule → IsCertWithin nest c → IsListing nest schedule c is ss → AreValid is c.proofs
-    → AreFoldsFit c.folds ss
-folds_fit nest schedule c is ss asked within l valid =
+pub folds_fit : (nest : Nest) (schedule : Schedule) (c : Cert) (is : List Item) → IsAsked nest schedule → IsCertWithin nest c → AreItems nest schedule c is → NonePasses nest schedule c → AreValid is c.proofs
+    → Each (FoldFits nest schedule (trees_of c.flow)) c.folds
+folds_fit nest schedule c is asked within l none valid =
     let a = asked.scheduled in
-    of_program a.program schedule c is ss a.has asked.named a.fits (subst (λ (n : Nest). IsCertWithin n c) a.is within) (subst (λ (n : Nest). IsListing n schedule c is ss) a.is l) valid
+    subst (λ (n : Nest). IsCertWithin n c → AreItems n schedule c is → HoldsOfNone (FoldPasses n schedule (trees_of c.flow)) c.folds → Each (FoldFits n schedule (trees_of c.flow)) c.folds) (sym a.is)
+    (λ w k h. of_program a.program schedule c is a.has asked.named a.fits w k h valid) within l none.folds

@@ -3,7 +3,6 @@ use Rattle.std.specs.Prelude.{◌≡◌, ℕ, ◌+◌, ℤ, List, length, Some, 
 use Rattle.std.specs.List.{AllZip}
 use Rattle.affc_ast.specs.declared.tree.ArrayId.{ArrayId}
 use Rattle.affc_system.specs.Systems.{Rows}
-use Rattle.affc_system.specs.declared.pairs.PairSystem.{PairSystem}
 use Rattle.affc_farkas.specs.declared.proof.Proof.{Proof}
 use Rattle.affc_trace.specs.declared.schedule.Schedule.{Schedule}
 use Rattle.affc_basis.specs.declared.fold.Fold.{Fold}
@@ -13,7 +12,6 @@ use Rattle.affc_check.specs.list.Certs.{AreItems}
 use Rattle.affc_check.specs.list.Items.{Item, Question, Shown, FoldShown}
 use Rattle.affc_check.specs.Laws.{IsFoldShown}
 use Rattle.affc_check.specs.list.Passes.{NonePasses}
-use Rattle.affc_check.specs.list.Walks.{IsListing}
 use Rattle.affc_check.specs.Valid.{AreValid, FailsFirst, questions_among}
 use Rattle.affc_check.specs.declared.check.Checked.{Checked}
 
@@ -39,10 +37,11 @@ pub record IsFoldMade (f : FoldShown) (made : ArrayId × Fold) : Type 0 where
   pub array : made.0.0 ≡ f.array
   pub shown : IsFoldShown f made.1
 
--- the items of the certificate, whose folds' arrays have these clash systems, are valid, with so many proofs behind the last question's
-pub record IsProved (nest : Nest) (schedule : Schedule) (c : Cert) (systems : List (List PairSystem)) (spare : ℕ) : Type 0 where
+-- the items of the certificate are valid, with so many proofs behind the last question's, and no part of it passes the limits
+pub record IsProved (nest : Nest) (schedule : Schedule) (c : Cert) (spare : ℕ) : Type 0 where
   pub items : List Item
-  pub listing : IsListing nest schedule c items systems
+  pub are : AreItems nest schedule c items
+  pub within : NonePasses nest schedule c
   pub valid : AreValid items c.proofs
   pub proofs : length c.proofs ≡ questions_among items + spare
 

@@ -2,6 +2,7 @@ pub mod Valid
 pub mod Steps
 pub mod Answers
 pub mod Looked
+pub mod Walked
 pub mod Made
 pub mod Laws
 pub mod Layouts

@@ -1,17 +1,15 @@
 -- How far the items of a certificate are looked at.
 use Rattle.std.specs.Prelude.{◌≡◌, ℕ, ◌+◌, List, ◌++◌, length, flat_map}
 use Rattle.affc_trace.specs.declared.schedule.Schedule.{Schedule}
-use Rattle.affc_system.specs.declared.pairs.PairSystem.{PairSystem}
 use Rattle.affc_farkas.specs.declared.proof.Proof.{Proof}
 use Rattle.affc_nest.specs.declared.nest.Nest.{Nest}
 use Rattle.affc_quast.specs.Trees.{Tree}
 use Rattle.affc_cert.specs.declared.cert.Cert.{Cert}
 use Rattle.affc_certvalue.specs.declared.fold.fold.CertFold.{CertFold}
-use Rattle.affc_check.specs.list.Certs.{AreFoldsSaid}
-use Rattle.affc_check.specs.list.Items.{Item, fold_items}
+use Rattle.affc_check.specs.list.Certs.{IsFoldSaid, AreFoldsSaid, AreItems}
+use Rattle.affc_check.specs.list.Items.{Item, FoldShown, fold_items}
 use Rattle.affc_check.specs.list.Limits.{AnyPasses, HoldsOfNone}
-use Rattle.affc_check.specs.list.Passes.{FoldPasses}
-use Rattle.affc_check.specs.list.Walks.{IsListing, folds_shown}
+use Rattle.affc_check.specs.list.Passes.{FoldPasses, NonePasses}
 use Rattle.affc_check.specs.Answers.{FailsAtQuestion, FailsAtPoint}
 use Rattle.affc_check.specs.Steps.{Leaves}
 use Rattle.affc_check.specs.Valid.{AreValid, questions_among}
@@ -55,14 +53,23 @@ pub record PartsLooked (old new : Looked) (parts : List (List Item)) : Type 0 wh
   pub looks : Looks old new (flat_map (λ items. items) parts)
   pub within : HoldsOfNone AnyPasses parts
 
--- the same of the items of folds, whose arrays have these clash systems
-pub record FoldsLooked (nest : Nest) (schedule : Schedule) (trees : List Tree) (cs : List CertFold) (systems : List (List PairSystem)) (old new : Looked) : Type 0 where
-  pub said : AreFoldsSaid nest schedule trees cs (folds_shown cs systems)
-  pub looks : Looks old new (flat_map (fold_items nest) (folds_shown cs systems))
+-- the items of a fold are looked at, and it doesn't pass the limits
+pub record FoldLooked (nest : Nest) (schedule : Schedule) (trees : List Tree) (c : CertFold) (old new : Looked) : Type 0 where
+  pub fold : FoldShown
+  pub said : IsFoldSaid nest schedule trees c fold
+  pub looks : Looks old new (fold_items nest fold)
+  pub within : ¬ (FoldPasses nest schedule trees c)
+
+-- the same of folds
+pub record FoldsLooked (nest : Nest) (schedule : Schedule) (trees : List Tree) (cs : List CertFold) (old new : Looked) : Type 0 where
+  pub folds : List FoldShown
+  pub said : AreFoldsSaid nest schedule trees cs folds
+  pub looks : Looks old new (flat_map (fold_items nest) folds)
   pub within : HoldsOfNone (FoldPasses nest schedule trees) cs
 
--- all items of a certificate are looked at, whose folds' arrays have these clash systems
-pub record AllLooked (nest : Nest) (schedule : Schedule) (c : Cert) (systems : List (List PairSystem)) (looked : Looked) : Type 0 where
+-- all items of a certificate are looked at, and no part of it passes the limits
+pub record AllLooked (nest : Nest) (schedule : Schedule) (c : Cert) (looked : Looked) : Type 0 where
   pub items : List Item
-  pub listing : IsListing nest schedule c items systems
+  pub are : AreItems nest schedule c items
+  pub within : NonePasses nest schedule c
   pub stands : Stands looked items c.proofs

@@ -1,5 +1,6 @@
 pub mod Items
 pub mod Certs
+pub mod ByClash
 pub mod Held
 pub mod Limits
 pub mod Passes

@@ -1,26 +1,25 @@
 //! Whether certificates are valid.
 ghost use Rattle.std.specs.Prelude.{◌≡◌, ◌≢◌, ℕ, map, IfOk, IfErr, OnOk};
-ghost use Rattle.affc_quast.specs.Seen.{trees_of};
 ghost use Rattle.affc_sched.specs.Legality.{IsAsked};
 ghost use Rattle.affc_check.specs.list.Certs.{AreItems, IsCertWithin};
 ghost use Rattle.affc_check.specs.list.Held.{item_said};
 ghost use Rattle.affc_check.specs.list.Passes.{PassesFirst, NonePasses};
-ghost use Rattle.affc_check.specs.list.Walks.{clash_systems, AreSystems};
 ghost use Rattle.affc_check.specs.Answers.{IsChecked, IsProved, ProofFails, ShownFails};
 ghost use Rattle.affc_check.specs.Looked.{IsAllValid, QuestionFails, PointFails};
+ghost use Rattle.affc_check.specs.Walked.{IsSetting};
 
 use crate::checks::Looked;
 use crate::fault::CheckFault;
-use crate::list::{Item, PartStop, all_items, systems_of};
+use crate::fold_looks::Setting;
+use crate::list::trees::tree_parts;
+use crate::list::{Item, PartStop, all_items};
 use crate::looks::look_items;
 use crate::made::add_made;
 use affc_ast::tree::ArrayId;
 use affc_basis::Fold;
 use affc_cert::Cert;
-use affc_life::ClashProduct;
 use affc_nest::Nest;
 use affc_trace::schedule::Schedule;
-use sqlite_items::Items;
 use std::alloc::Global;
 
 /// What a valid certificate says: the folds of arrays, with their marks. So many of its proofs stand behind the last question's.
@@ -66,24 +65,18 @@ fn verdict(looked: Looked<'_>) -> Result<usize, CheckFault>
     }
 }
 
-/// Checks the items of a certificate, whose folds' arrays have these clash systems: how many proofs are left. Of the faults the first
-/// part whose questions pass the limits comes before any item.
-fn check_items(
-    alloc: Global,
-    nest: &Nest,
-    schedule: &Schedule,
-    cert: &Cert,
-    systems: &[Items<ClashProduct>],
-) -> Result<usize, CheckFault>
-    requires asked { IsAsked nest.now schedule.now }
-    requires certificate { IsCertWithin nest.now cert.now }
-    requires systems { AreSystems nest.now schedule.now (trees_of cert.now.flow) cert.now.folds (map clash_systems systems.now) }
-    ensures ok { IfOk result (IsProved nest.now schedule.now cert.now (map clash_systems systems.now)) }
-    ensures number { IfErr result (λ e. (part : ℕ) → e ≡ CheckFault.Number part → PassesFirst nest.now schedule.now cert.now part) }
-    ensures proof { IfErr result (λ e. (n : ℕ) → e ≡ CheckFault.Proof n → ProofFails nest.now schedule.now cert.now n) }
-    ensures shown { IfErr result (λ e. (n : ℕ) → e ≡ CheckFault.Shown n → ShownFails nest.now schedule.now cert.now n) }
+/// Checks the items of a certificate: how many proofs are left. Of the faults the first part whose questions pass the limits comes
+/// before any item.
+fn check_items(alloc: Global, of: &Setting<'_>, cert: &Cert) -> Result<usize, CheckFault>
+    requires setting { IsSetting of.now }
+    requires flow { of.now.flow.now ≡ cert.now.flow }
+    requires certificate { IsCertWithin of.now.nest.now cert.now }
+    ensures ok { IfOk result (IsProved of.now.nest.now of.now.schedule.now cert.now) }
+    ensures number { IfErr result (λ e. (part : ℕ) → e ≡ CheckFault.Number part → PassesFirst of.now.nest.now of.now.schedule.now cert.now part) }
+    ensures proof { IfErr result (λ e. (n : ℕ) → e ≡ CheckFault.Proof n → ProofFails of.now.nest.now of.now.schedule.now cert.now n) }
+    ensures shown { IfErr result (λ e. (n : ℕ) → e ≡ CheckFault.Shown n → ShownFails of.now.nest.now of.now.schedule.now cert.now n) }
 {
-    match look_items(alloc, nest, schedule, cert, systems) {
+    match look_items(alloc, of, cert) {
         Ok(looked) => verdict(looked),
         Err(PartStop::Part(part)) => Err(CheckFault::Number(part)),
         Err(PartStop::Memory) => Err(CheckFault::Memory),
@@ -105,11 +98,16 @@ pub fn check_all(
     ensures proof { IfErr result (λ e. (n : ℕ) → e ≡ CheckFault.Proof n → ProofFails nest.now schedule.now cert.now n) }
     ensures shown { IfErr result (λ e. (n : ℕ) → e ≡ CheckFault.Shown n → ShownFails nest.now schedule.now cert.now n) }
 {
-    let systems = systems_of(alloc, nest, schedule, cert)?;
-    let systems = systems.as_slice();
-    let spare = check_items(alloc, nest, schedule, cert, systems)?;
+    let flow = &cert.flow;
+    let parts = tree_parts(alloc, nest, flow)?;
+    let of = Setting {
+        nest,
+        schedule,
+        flow,
+        parts: parts.as_slice(),
+    };
+    let spare = check_items(alloc, &of, cert)?;
     let mut folds = Vec::new(alloc);
-    let said = cert.folds.as_slice();
-    add_made(alloc, nest, said, systems, &mut folds)?;
+    add_made(alloc, &of, cert.folds.as_slice(), &mut folds)?;
     Ok(Checked { folds, spare })
 }

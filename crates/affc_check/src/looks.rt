@@ -7,11 +7,12 @@ ghost use Rattle.affc_sched.specs.Legality.{IsAsked};
 ghost use Rattle.affc_sched.specs.Questions.{legality_questions};
 ghost use Rattle.affc_sched.specs.Touched.{Each};
 ghost use Rattle.affc_quast.specs.Limits.{Shaped, FitsTree, widest};
-ghost use Rattle.affc_quast.specs.Seen.{seen, trees_of};
+ghost use Rattle.affc_quast.specs.Seen.{seen};
 ghost use Rattle.affc_quast.specs.SeenLeaves.{leaf_seen};
 ghost use Rattle.affc_quast.specs.Trees.{divisions_of};
-ghost use Rattle.affc_life.specs.Asked.{KeepLimits, IsPath};
-ghost use Rattle.affc_check.specs.Looked.{Looks, AreLooked, PartsLooked, AllLooked, FoldsLooked};
+ghost use Rattle.affc_life.specs.Asked.{IsPath};
+ghost use Rattle.affc_check.specs.Looked.{Looks, AreLooked, PartsLooked, AllLooked};
+ghost use Rattle.affc_check.specs.Walked.{IsSetting};
 ghost use Rattle.affc_life.specs.Paths.{with_named, leaves_under};
 ghost use Rattle.affc_check.specs.list.Certs.{IsCertWithin};
 ghost use Rattle.affc_check.specs.list.Groups.{part_items};
@@ -20,30 +21,27 @@ ghost use Rattle.affc_check.specs.list.Items.{Question};
 ghost use Rattle.affc_check.specs.list.Limits.{AnyPasses};
 ghost use Rattle.affc_check.specs.list.Listed.{IsFirstPart};
 ghost use Rattle.affc_check.specs.list.Loads.{part_said, IsLoaded, IsPart};
-ghost use Rattle.affc_check.specs.list.Passes.{FoldPasses, PassesFirst, items_by_tree};
-ghost use Rattle.affc_check.specs.list.Walks.{clash_systems, leaf_items, load_items, IsFoldAsked, AreSystems};
+ghost use Rattle.affc_check.specs.list.Passes.{PassesFirst};
+ghost use Rattle.affc_check.specs.list.Walks.{leaf_items, load_items};
 
 use crate::checks::{Looked, look_all};
-use crate::list::all::add_folds;
+use crate::fold_looks::{Setting, look_folds};
 use crate::list::bounds::{add_bound_questions, add_extent_questions};
 use crate::list::groups::{add_groups, add_kept};
 use crate::list::item::Loaded;
 use crate::list::listing::add_point;
 use crate::list::shown::context_shown;
 use crate::list::stop::{PartStop, Stop, at_part};
-use crate::list::trees::{add_leaf, columns_of, tree_parts};
+use crate::list::trees::{add_leaf, columns_of};
 use affc_cert::Cert;
-use affc_certvalue::fold::fold::CertFold;
-use affc_life::ClashProduct;
 use affc_life::path::{add_copy, add_row, divide, drop_row, root, undivide};
 use affc_nest::Nest;
 use affc_nest::lists::copied;
 use affc_products::Group;
+use affc_quast::Quast;
 use affc_quast::leaves::{Leaf, Named, negated};
-use affc_quast::{Flow, Quast};
 use affc_sched::legality_groups;
 use affc_trace::schedule::Schedule;
-use sqlite_items::Items;
 use std::alloc::{AllocError, Global};
 
 // ---- A leaf
@@ -248,22 +246,6 @@ fn look_bounds<'p>(
     look_all(alloc, listed.as_slice(), looked)
 }
 
-/// Looks at the questions of trees, if all keep the limits.
-fn look_trees<'p>(
-    alloc: Global,
-    nest: &Nest,
-    flow: &Flow,
-    looked: Looked<'p>,
-) -> Result<Looked<'p>, PartStop>
-    requires nested { IsNest nest.now }
-    requires limits { KeepLimits nest.now (trees_of flow.now) }
-    ensures ok { IfOk result (λ new. PartsLooked looked.entry new (items_by_tree nest.now (trees_of flow.now))) }
-    ensures past { IfErr result (λ e. (n : ℕ) → e ≡ PartStop.Part n → IsFirstPart AnyPasses 1 (items_by_tree nest.now (trees_of flow.now)) n) }
-{
-    let parts = tree_parts(alloc, nest, flow)?;
-    look_parts(alloc, nest, parts.as_slice(), 1, looked)
-}
-
 /// Looks at the questions on the schedule.
 fn look_schedule<'p>(
     alloc: Global,
@@ -280,61 +262,26 @@ fn look_schedule<'p>(
     look_all(alloc, listed.as_slice(), looked)
 }
 
-/// Looks at the items of these folds, whose parts are numbered from `first` on and whose arrays have these clash systems.
-fn look_folds<'p>(
-    alloc: Global,
-    nest: &Nest,
-    flow: &Flow,
-    schedule: &Schedule,
-    folds: &[CertFold],
-    systems: &[Items<ClashProduct>],
-    first: usize,
-    looked: Looked<'p>,
-) -> Result<Looked<'p>, PartStop>
-    requires asked { IsAsked nest.now schedule.now }
-    requires folds { Each (IsFoldAsked nest.now (trees_of flow.now)) folds.now }
-    requires systems { AreSystems nest.now schedule.now (trees_of flow.now) folds.now (map clash_systems systems.now) }
-    ensures ok { IfOk result (λ new. FoldsLooked nest.now schedule.now (trees_of flow.now) folds.now (map clash_systems systems.now) looked.entry new) }
-    ensures past { IfErr result (λ e. (n : ℕ) → e ≡ PartStop.Part n → IsFirstPart (FoldPasses nest.now schedule.now (trees_of flow.now)) first folds.now n) }
-{
-    let mut listed = Vec::new(alloc);
-    add_folds(
-        alloc,
-        nest,
-        flow,
-        schedule,
-        folds,
-        systems,
-        first,
-        &mut listed,
-    )?;
-    let after = look_all(alloc, listed.as_slice(), looked)?;
-    Ok(after)
-}
-
-/// Looks at the items of a certificate, whose folds' arrays have these clash systems: no part of it passes the limits, or the first
-/// that does is told.
+/// Looks at the items of a certificate: no part of it passes the limits, or the first that does is told.
 pub(crate) fn look_items<'p>(
     alloc: Global,
-    nest: &Nest,
-    schedule: &Schedule,
+    of: &Setting<'_>,
     cert: &'p Cert,
-    systems: &[Items<ClashProduct>],
 ) -> Result<Looked<'p>, PartStop>
-    requires asked { IsAsked nest.now schedule.now }
-    requires certificate { IsCertWithin nest.now cert.now }
-    requires systems { AreSystems nest.now schedule.now (trees_of cert.now.flow) cert.now.folds (map clash_systems systems.now) }
-    ensures ok { IfOk result (AllLooked nest.now schedule.now cert.now (map clash_systems systems.now)) }
-    ensures past { IfErr result (λ e. (n : ℕ) → e ≡ PartStop.Part n → PassesFirst nest.now schedule.now cert.now n) }
+    requires setting { IsSetting of.now }
+    requires flow { of.now.flow.now ≡ cert.now.flow }
+    requires certificate { IsCertWithin of.now.nest.now cert.now }
+    ensures ok { IfOk result (AllLooked of.now.nest.now of.now.schedule.now cert.now) }
+    ensures past { IfErr result (λ e. (n : ℕ) → e ≡ PartStop.Part n → PassesFirst of.now.nest.now of.now.schedule.now cert.now n) }
 {
-    let flow = &cert.flow;
+    let (nest, schedule) = (of.nest, of.schedule);
     let none = Looked::Holding(cert.proofs.as_slice(), 0);
     let bounds = look_bounds(alloc, nest, cert.context.as_slice(), none)?;
-    let trees = look_trees(alloc, nest, flow, bounds)?;
+    let trees = look_parts(alloc, nest, of.parts, 1, bounds)?;
     let legal = look_schedule(alloc, nest, schedule, trees)?;
     let Some(first) = cert.flow.trees.len().checked_add(1) else {
         return Err(PartStop::Memory);
     };
     let folds = cert.folds.as_slice();
-    look_folds(alloc, nest, flow, schedule, folds, systems, first, legal)
+    look_folds(alloc, of, folds, first, legal)
 }

@@ -1,5 +1,5 @@
 //! The folds that a certificate says, with their marks.
-ghost use Rattle.std.specs.Prelude.{◌≡◌, ◌≤◌, ◌++◌, Some, map, length, IfOk, OnOk};
+ghost use Rattle.std.specs.Prelude.{◌≡◌, ◌≤◌, ◌++◌, List, Some, map, length, IfOk, OnOk};
 ghost use Rattle.std.specs.List.{All};
 ghost use Rattle.affc_rows.specs.Forms.{value, values_of};
 ghost use Rattle.affc_system.specs.Pairs.{IsSubscript};
@@ -7,20 +7,27 @@ ghost use Rattle.affc_system.specs.Systems.{FitsRow};
 ghost use Rattle.affc_sched.specs.Touched.{Each};
 ghost use Rattle.affc_certvalue.specs.Limits.{IsWord};
 ghost use Rattle.affc_questions.specs.Asked.{IsAlong};
-ghost use Rattle.affc_check.specs.list.Certs.{least_said, modulus_said};
-ghost use Rattle.affc_check.specs.list.Items.{elements_at, pair_of, mark_of, moduli_of};
+ghost use Rattle.affc_check.specs.list.Certs.{least_said, modulus_said, IsFoldSaid};
+ghost use Rattle.affc_check.specs.list.Items.{FoldShown, elements_at, pair_of, mark_of, moduli_of};
 ghost use Rattle.affc_check.specs.Laws.{IsFoldShown};
-ghost use Rattle.affc_check.specs.list.Walks.{clash_systems, fold_shown, folds_shown, AreRowsAsked, AreFoldsAsked};
-ghost use Rattle.affc_check.specs.Made.{AreMade, AreWordsAt, IsPairFit, IsMarkFit, AreRowsFit, AreFoldsFit};
+ghost use Rattle.affc_check.specs.list.Walks.{clash_systems, IsFoldAsked};
+ghost use Rattle.affc_check.specs.Walked.{AreAllAlong, AreRowsAlong, StandsFor, IsSetting, clashes_in};
+ghost use Rattle.affc_life.specs.Clashes.{clash_of};
+ghost use Rattle.affc_life.specs.Sizes.{AnyLarge};
+ghost use Rattle.affc_quast.specs.Seen.{trees_of};
+ghost use Rattle.affc_system.specs.declared.pairs.PairSystem.{PairSystem};
+ghost use Rattle.affc_check.specs.Made.{AreMade, AreWordsAt, IsPairFit, IsMarkFit, MarkFits, RowsFit, FoldFits};
 
+use crate::checks::Looked;
+use crate::fold_looks::{Setting, first_sought, keep, walk_array};
 use crate::list::shown::{Along, system_at};
+use crate::list::stop::Stop;
+use crate::walks::{Carried, Sought};
 use affc_ast::tree::ArrayId;
 use affc_basis::Basis;
 use affc_basis::basis::given;
 use affc_basis::fold::{Fold, Mark, Modulus};
 use affc_certvalue::fold::fold::{CertFold, CertLeast, CertModulus};
-use affc_life::ClashProduct;
-use affc_nest::Nest;
 use affc_nest::lists::copied;
 use affc_questions::is_behind;
 use affc_rows::Form;
@@ -123,19 +130,77 @@ fn mark(alloc: Global, along: &Along<'_>, least: &Option<CertLeast>) -> Result<M
     Ok(Mark::Least { p, pair })
 }
 
+/// Where a walk over an array's clash systems comes to that seeks the one of what shows that a modulus is least.
+fn sought_in(
+    alloc: Global,
+    of: &Setting<'_>,
+    array: ArrayId,
+    least: &Option<CertLeast>,
+) -> Result<Sought, AllocError>
+    requires setting { IsSetting of.now }
+    requires fits { ¬ (AnyLarge (clashes_in of.now array)) }
+    ensures { IfOk result (λ s. StandsFor least.now s (clashes_in of.now array)) }
+{
+    let start = Carried {
+        looked: Looked::Unproved(0),
+        sought: first_sought(least),
+    };
+    let walked = match walk_array(alloc, of, array, None, start) {
+        Ok(walked) => walked,
+        Err(Stop::Past) => unreachable!(),
+        Err(Stop::Memory) => return Err(AllocError),
+    };
+    let Carried { looked: _, sought } = walked;
+    Ok(sought)
+}
+
+/// The mark of a modulus of an array's fold.
+fn mark_said(
+    alloc: Global,
+    of: &Setting<'_>,
+    array: ArrayId,
+    along: &Along<'_>,
+    least: &Option<CertLeast>,
+) -> Result<Mark, AllocError>
+    requires setting { IsSetting of.now }
+    requires fits { ¬ (AnyLarge (clashes_in of.now array)) }
+    requires along { AreAllAlong along.now.rows.now along.now.row.now along.now.modulus.now (clashes_in of.now array) }
+    requires fit { MarkFits (clashes_in of.now array) (least_said least.now) }
+    ensures { IfOk result (λ m. (ss : List PairSystem) → map clash_of ss ≡ clashes_in of.now array → m ≡ mark_of ss along.now.row.now (least_said least.now)) }
+{
+    match least {
+        None => Ok(Mark::Bound),
+        Some(shown) => {
+            let sought = sought_in(alloc, of, array, least)?;
+            let kept = keep(alloc, shown, sought)?;
+            let beside = Along {
+                nest: along.nest,
+                systems: kept.products.as_slice(),
+                rows: along.rows,
+                k: along.k,
+                row: along.row,
+                modulus: along.modulus,
+            };
+            mark(alloc, &beside, &kept.least)
+        }
+    }
+}
+
 /// Adds the moduli of these rows.
 fn add_moduli(
     alloc: Global,
-    nest: &Nest,
-    systems: &[ClashProduct],
+    of: &Setting<'_>,
+    array: ArrayId,
     rows: &[Form],
     more: &[Form],
     moduli: &[CertModulus],
     out: &mut Items<Modulus>,
 ) -> Result<(), AllocError>
-    requires asked { AreRowsAsked nest.now (clash_systems systems.now) rows.now more.now moduli.now }
-    requires fit { AreRowsFit (clash_systems systems.now) more.now (map modulus_said moduli.now) }
-    ensures { OnOk result (out.new ≡ out.old ++ moduli_of (clash_systems systems.now) more.now (map modulus_said moduli.now)) }
+    requires setting { IsSetting of.now }
+    requires fits { ¬ (AnyLarge (clashes_in of.now array)) }
+    requires asked { AreRowsAlong of.now.nest.now (clashes_in of.now array) rows.now more.now moduli.now }
+    requires fit { RowsFit (clashes_in of.now array) more.now (map modulus_said moduli.now) }
+    ensures { OnOk result ((ss : List PairSystem) → map clash_of ss ≡ clashes_in of.now array → out.new ≡ out.old ++ moduli_of ss more.now (map modulus_said moduli.now)) }
 {
     match more {
         [] => Ok(()),
@@ -143,17 +208,17 @@ fn add_moduli(
             [] => Ok(()),
             [modulus, more_moduli @ ..] => {
                 let along = Along {
-                    nest,
-                    systems,
+                    nest: of.nest,
+                    systems: &[],
                     rows,
                     k: 0,
                     row,
                     modulus: &modulus.form,
                 };
-                let mark = mark(alloc, &along, &modulus.least)?;
+                let mark = mark_said(alloc, of, array, &along, &modulus.least)?;
                 let form = modulus.form.clone()?;
                 out.push(Modulus { form, mark })?;
-                add_moduli(alloc, nest, systems, rows, more_rows, more_moduli, out)
+                add_moduli(alloc, of, array, rows, more_rows, more_moduli, out)
             }
         },
     }
@@ -173,24 +238,19 @@ fn basis_copied(alloc: Global, basis: &Basis) -> Result<Basis, AllocError>
     }
 }
 
-/// The fold that a certificate says of an array with these clash systems.
-fn fold_made(
-    alloc: Global,
-    nest: &Nest,
-    fold: &CertFold,
-    systems: &[ClashProduct],
-) -> Result<Fold, AllocError>
-    requires asked { AreRowsAsked nest.now (clash_systems systems.now) fold.now.basis.rows fold.now.basis.rows fold.now.moduli }
-    requires each { length fold.now.moduli ≡ length fold.now.basis.rows }
-    requires fit { AreRowsFit (clash_systems systems.now) fold.now.basis.rows (map modulus_said fold.now.moduli) }
-    ensures { IfOk result (λ made. IsFoldShown (fold_shown fold.now (clash_systems systems.now)) made) }
+/// The fold that a certificate says.
+fn fold_made(alloc: Global, of: &Setting<'_>, fold: &CertFold) -> Result<Fold, AllocError>
+    requires setting { IsSetting of.now }
+    requires asked { IsFoldAsked of.now.nest.now (trees_of of.now.flow.now) fold.now }
+    requires fit { FoldFits of.now.nest.now of.now.schedule.now (trees_of of.now.flow.now) fold.now }
+    ensures { IfOk result (λ made. (f : FoldShown) → IsFoldSaid of.now.nest.now of.now.schedule.now (trees_of of.now.flow.now) fold.now f → IsFoldShown f made) }
 {
     let rows = fold.basis.rows.as_slice();
     let mut moduli = Items::new(alloc);
     add_moduli(
         alloc,
-        nest,
-        systems,
+        of,
+        fold.array,
         rows,
         rows,
         fold.moduli.as_slice(),
@@ -203,24 +263,21 @@ fn fold_made(
 /// Adds the folds that a certificate says.
 pub(crate) fn add_made(
     alloc: Global,
-    nest: &Nest,
+    of: &Setting<'_>,
     folds: &[CertFold],
-    systems: &[Items<ClashProduct>],
     out: &mut Vec<(ArrayId, Fold)>,
 ) -> Result<(), AllocError>
-    requires asked { AreFoldsAsked nest.now folds.now (map clash_systems systems.now) }
-    requires fit { AreFoldsFit folds.now (map clash_systems systems.now) }
-    ensures { OnOk result (AreMade (folds_shown folds.now (map clash_systems systems.now)) out.old.items out.new.items) }
+    requires setting { IsSetting of.now }
+    requires asked { Each (IsFoldAsked of.now.nest.now (trees_of of.now.flow.now)) folds.now }
+    requires fit { Each (FoldFits of.now.nest.now of.now.schedule.now (trees_of of.now.flow.now)) folds.now }
+    ensures { OnOk result (AreMade of.now.nest.now of.now.schedule.now (trees_of of.now.flow.now) folds.now out.old.items out.new.items) }
 {
     match folds {
         [] => Ok(()),
-        [fold, more @ ..] => match systems {
-            [] => Ok(()),
-            [own, others @ ..] => {
-                let made = fold_made(alloc, nest, fold, own.as_slice())?;
-                out.push((fold.array, made))?;
-                add_made(alloc, nest, more, others, out)
-            }
-        },
+        [fold, more @ ..] => {
+            let made = fold_made(alloc, of, fold)?;
+            out.push((fold.array, made))?;
+            add_made(alloc, of, more, out)
+        }
     }
 }

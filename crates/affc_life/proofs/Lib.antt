@@ -15,6 +15,7 @@ pub mod WalkLemmas
 pub mod PathLemmas
 pub mod SubscriptLemmas
 pub mod RowLemmas
+pub mod PairedLemmas
 pub mod DraftedLemmas
 pub mod FoundLemmas
 pub mod DomainLemmas

@@ -12,7 +12,7 @@ use Rattle.affc_sched.specs.Touched.{Each}
 use Rattle.affc_quast.specs.Leaves as seen
 use Rattle.affc_quast.specs.Leaves.{negated, leaves_of}
 use Rattle.affc_quast.specs.Limits.{Shaped, FitsTree, widest}
-use Rattle.affc_quast.specs.SeenLeaves.{division_seen, under}
+use Rattle.affc_quast.specs.SeenLeaves.{division_seen}
 use Rattle.affc_quast.specs.Trees.{Tree, Test, Div, depth_of, divisions_of}
 use Rattle.affc_quast.specs.declared.leaves.Leaf.{Leaf}
 use Rattle.affc_quast.proofs.PathLemmas.{test_made, division_made, leaves_made}

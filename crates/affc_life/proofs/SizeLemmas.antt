@@ -35,7 +35,7 @@ use Rattle.affc_quast.specs.Limits.{IsTreeWithin, narrow}
 use Rattle.affc_quast.specs.Trees.{Tree, depth_of, divisions_of}
 use Rattle.affc_life.specs.Asked.{KeepLimits, StandBeside}
 use Rattle.affc_life.specs.Clashes.{Clash, Walk, live_walk, of_reader, of_writer, front_rows, reader_posed, named_posed, writer_posed}
-use Rattle.affc_life.specs.Laws.{AreFound, FoundTreesAreNeverLarge}
+use Rattle.affc_life.specs.Laws.{AreFound, FoundTreesAreNeverLarge, FoundTreesLeaveRoom}
 use Rattle.affc_life.specs.Sizes.{IsLarge}
 use Rattle.affc_life.proofs.CountLemmas.{order_count, between_count}
 use Rattle.affc_life.proofs.DomainLemmas.{domain_fits}
@@ -206,3 +206,8 @@ module _ (program : Program) (has : HasNest program) (named : NamesArrays progra
 pub found_trees_are_never_large : FoundTreesAreNeverLarge
 found_trees_are_never_large program trees schedule array has named fits slight found any =
     not_large program has named trees found schedule fits slight array any.clash (made (nest_of program) trees schedule array any.clash any.there) any.large
+
+pub found_trees_leave_room : FoundTreesLeaveRoom
+found_trees_leave_room program trees schedule array clash has named fits slight found there =
+    let k = made (nest_of program) trees schedule array clash there in
+    (columns_few program has named trees found schedule fits slight array clash k, rows_few program has named trees found schedule fits slight array clash k)

@@ -1,7 +1,7 @@
 -- Seeking an entry of lists one behind the other by its number.
 use Rattle.std.proofs.Common.{◌≡◌, ℕ, zero, suc, ◌+◌, ◌<◌, List, [], ◌∷◌, ◌++◌, length, flat_map, drop, get_or, Some, sym, ap, subst, ◌∙◌, arith}
 use Rattle.std.specs.Prelude.{slice_get}
-use Rattle.std.proofs.lemmas.List.{length-map}
+use Rattle.std.proofs.lemmas.List.{length-append, length-map}
 use Rattle.affc_trace.proofs.Runs.{slice_left, slice_right}
 use Rattle.affc_domain.proofs.Lists.{to_mapped}
 use Rattle.affc_rows.specs.Forms.{Affine}
@@ -52,6 +52,18 @@ module _ (products : List ClashProduct) (i : ℕ) (p : ClashProduct) (within : i
       ap (λ ps. slice_get (flat_map systems_in ps) left) next
       ∙ in_second (systems_in p) (flat_map systems_in (drop (i + 1) products)) left further
       (e ∙ ap (λ fs. length (choices fs) + further) f ∙ ap (λ n. n + further) (sym (length-map (choices p.factors) (with_choice p))))
+
+  pub counted_later : (factors : List (List (List Affine))) (number left further : ℕ) → factors ≡ p.factors → left ≡ length (choices factors) + further
+      → number + length (flat_map systems_in (drop i products)) ≡ length (flat_map systems_in products) + left
+      → number + length (flat_map systems_in (drop (i + 1) products)) ≡ length (flat_map systems_in products) + further
+  counted_later factors number left further f e h =
+      let own : length (systems_in p) ≡ length (choices factors) = length-map (choices p.factors) (with_choice p) ∙ ap (λ fs. length (choices fs)) (sym f) in
+      let all : length (flat_map systems_in (drop i products)) ≡ length (systems_in p) + length (flat_map systems_in (drop (i + 1) products)) =
+      ap (λ ps. length (flat_map systems_in ps)) next ∙ length-append (systems_in p) (flat_map systems_in (drop (i + 1) products)) in
+      sum number (length (flat_map systems_in (drop i products))) (length (flat_map systems_in products)) left (length (choices factors)) further (length (systems_in p)) (length (flat_map systems_in (drop (i + 1) products))) e own all h
+    where
+      sum : (n d l left c f o m : ℕ) → left ≡ c + f → o ≡ c → d ≡ o + m → n + d ≡ l + left → n + m ≡ l + f
+      sum n d l left c f o m a b e h = omega (arith, a, b, e, h)
 
 -- ---- Rows
 

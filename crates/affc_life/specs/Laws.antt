@@ -1,5 +1,5 @@
 -- What the clash systems say.
-use Rattle.std.specs.Prelude.{◌≡◌, ◌≢◌, ◌↔◌, ℕ, ◌+◌, ◌<◌, ℤ, IsTrue, List, length, map, take, Some, slice_get}
+use Rattle.std.specs.Prelude.{◌≡◌, ◌≢◌, ◌↔◌, ℕ, ◌+◌, ◌<◌, ◌≤◌, ℤ, IsTrue, List, length, map, take, Some, slice_get}
 use Rattle.std.specs.List.{All}
 use Rattle.affc_rows.specs.Forms.{values_of}
 use Rattle.affc_system.specs.ElementPairs.{IsPairOf}
@@ -86,6 +86,12 @@ abbrev pub FoundTreesAreNeverLarge : Type 0
 FoundTreesAreNeverLarge = (program : Program) (trees : List Tree) (schedule : Schedule) (array : ℕ)
     → HasNest program → NamesArrays program → IsScheduleOf program schedule → IsTrue (within_limits schedule) → AreFound (nest_of program) trees
     → ¬ (AnyLarge (clashes (nest_of program) trees schedule array))
+
+-- each has so few columns and rows that most of a system's are left.
+abbrev pub FoundTreesLeaveRoom : Type 0
+FoundTreesLeaveRoom = (program : Program) (trees : List Tree) (schedule : Schedule) (array : ℕ) (clash : Clash)
+    → HasNest program → NamesArrays program → IsScheduleOf program schedule → IsTrue (within_limits schedule) → AreFound (nest_of program) trees
+    → IsIn clash (clashes (nest_of program) trees schedule array) → (clash.system.columns ≤ 28) × (length clash.system.rows ≤ 638)
 
 -- ---- Conflicts
 

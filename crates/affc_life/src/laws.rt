@@ -1,5 +1,5 @@
 //! What the clash systems say. Each law is the contract of a function that does nothing.
-ghost use Rattle.affc_life.specs.Laws.{ClashesAreLivePairs, PointsAreInContext, ElementsDiffer, ClashesAreBoxed, FoundTreesKeepLimits, FoundTreesAreNeverLarge, ClashesAreConflicts};
+ghost use Rattle.affc_life.specs.Laws.{ClashesAreLivePairs, PointsAreInContext, ElementsDiffer, ClashesAreBoxed, FoundTreesKeepLimits, FoundTreesAreNeverLarge, FoundTreesLeaveRoom, ClashesAreConflicts};
 
 /// At each p of the context at which the trees name the sources, the pairs at the systems' points, in either order,
 /// are exactly the live pairs.
@@ -30,6 +30,11 @@ pub fn found_trees_keep_limits()
 /// For such trees, and a schedule within the limits, no clash system is too large.
 pub fn found_trees_are_never_large()
     ensures law { FoundTreesAreNeverLarge }
+{}
+
+/// Each has at most 28 columns and 638 rows.
+pub fn found_trees_leave_room()
+    ensures law { FoundTreesLeaveRoom }
 {}
 
 /// Where each access lies within its array, the clash systems of such trees are the conflicts that moduli are asked of.

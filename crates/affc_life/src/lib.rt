@@ -18,5 +18,5 @@ pub mod walk;
 
 pub use clash::ClashProduct;
 pub use fault::ClashFault;
-pub use product::{Found, found_at};
-pub use walk::clash_products;
+pub use product::{Found, Place, found_at, place_of};
+pub use walk::{clash_products, leaf_products};

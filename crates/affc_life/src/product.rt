@@ -4,7 +4,7 @@ ghost use Rattle.std.specs.List.{All};
 ghost use Rattle.affc_system.specs.Systems.{IsRow};
 ghost use Rattle.affc_products.specs.Blocks.{choices};
 ghost use Rattle.affc_life.specs.Products.{systems_in, found_system};
-ghost use Rattle.affc_life.specs.Sought.{IsSought};
+ghost use Rattle.affc_life.specs.Sought.{IsSought, IsPlace};
 
 use crate::clash::ClashProduct;
 use affc_nest::lists::{add_copies, copied};
@@ -75,6 +75,33 @@ fn seek(alloc: Global, factors: &[Items<Items<Form>>], number: usize) -> Result<
     }
 }
 
+/// Where the system with a number, from 0, stands among those of products.
+#[derive(Drop)]
+pub enum Place<'a> {
+    /// It is one of them.
+    Here(Found<'a>),
+    /// There are too few: how far the number is past them.
+    Past(usize),
+}
+
+/// The system with this number, from 0, of these products, or how far the number is past them.
+pub fn place_of<'a>(
+    alloc: Global,
+    products: &'a [ClashProduct],
+    number: usize,
+) -> Result<Place<'a>, AllocError>
+    ensures { IfOk result (IsPlace products.now number) }
+{
+    let mut left = number;
+    for product in products {
+        match seek(alloc, product.factors.as_slice(), left)? {
+            Sought::Choice(rows) => return Ok(Place::Here(Found { product, rows })),
+            Sought::Past(further) => left = further,
+        }
+    }
+    Ok(Place::Past(left))
+}
+
 /// The rows behind the base's of the system with this number, from 0, of these products; and the product it is of.
 pub fn found_at<'a>(
     alloc: Global,
@@ -85,12 +112,8 @@ pub fn found_at<'a>(
     ensures fit { IfOk result (λ o. IfSome o (λ found. All (IsRow found.product.now.base.system.columns) found.rows)) }
     ensures none { IfOk result (λ o. IfNone o (slice_get (flat_map systems_in products.now) number ≡ None)) }
 {
-    let mut left = number;
-    for product in products {
-        match seek(alloc, product.factors.as_slice(), left)? {
-            Sought::Choice(rows) => return Ok(Some(Found { product, rows })),
-            Sought::Past(further) => left = further,
-        }
+    match place_of(alloc, products, number)? {
+        Place::Here(found) => Ok(Some(found)),
+        Place::Past(_left) => Ok(None),
     }
-    Ok(None)
 }

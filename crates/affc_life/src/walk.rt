@@ -13,7 +13,7 @@ ghost use Rattle.affc_quast.specs.SeenLeaves.{leaf_seen};
 ghost use Rattle.affc_quast.specs.Sources.{loads_in, loads_before};
 ghost use Rattle.affc_quast.specs.Trees.{divisions_of};
 ghost use Rattle.affc_life.specs.Asked.{KeepLimits, KeepsLimits, IsLiving, IsPath, AreLoads};
-ghost use Rattle.affc_life.specs.Clashes.{clash_of, clashes_with, clashes_of_entry, numbered_loads, clashes_of, clashes};
+ghost use Rattle.affc_life.specs.Clashes.{clash_of, live_walk, clashes_with, clashes_of_entry, numbered_loads, clashes_of, clashes};
 ghost use Rattle.affc_life.specs.Drafts.{drafted, IsPaired, AreScheduled, walk_of, instance_named, clashes_of_leaf, clashes_of_load};
 ghost use Rattle.affc_life.specs.Paths.{with_named, leaves_under};
 ghost use Rattle.affc_life.specs.Products.{systems_in};
@@ -366,5 +366,55 @@ pub fn clash_products(
         differ: true,
     };
     let drafts = drafts_of(alloc, &asked, flow)?;
+    products_of(alloc, drafts)
+}
+
+/// The clash systems of a load and a leaf of its tree, as drafts.
+fn drafts_at(
+    alloc: Global,
+    asked: &Walking<'_>,
+    reader: &Entry,
+    load: &Access,
+    leaf: &Leaf,
+) -> Result<Vec<Draft>, AllocError>
+    requires scheduled { AreScheduled asked.now }
+    requires reads { IsLiving asked.now.nest.now reader.now }
+    requires load { IsIn load.now reader.now.accesses }
+    requires path { IsPath asked.now.nest.now (length asked.now.nest.now.params + coordinates reader.now) (leaf_seen leaf.now) }
+    ensures all { IfOk result (λ drafts. flat_map drafted drafts.items ≡ clashes_of_leaf asked.now.nest.now (walk_of asked.now) reader.now load.now (leaf_seen leaf.now)) }
+    ensures paired { IfOk result (λ drafts. All IsPaired (flat_map drafted drafts.items)) }
+{
+    let mut drafts = Vec::new(alloc);
+    add_leaf(alloc, asked, reader, load, leaf, &mut drafts)?;
+    Ok(drafts)
+}
+
+/// The clash systems of an array, of one of its loads and a leaf of the load's tree.
+pub fn leaf_products(
+    alloc: Global,
+    nest: &Nest,
+    schedule: &Schedule,
+    array: ArrayId,
+    reader: &Entry,
+    load: &Access,
+    leaf: &Leaf,
+) -> Result<Vec<ClashProduct>, ClashFault>
+    requires scheduled { IsScheduled nest.now schedule.now }
+    requires reads { IsLiving nest.now reader.now }
+    requires load { IsIn load.now reader.now.accesses }
+    requires path { IsPath nest.now (length nest.now.params + coordinates reader.now) (leaf_seen leaf.now) }
+    ensures ok { IfOk result (λ ps. map clash_of (flat_map systems_in ps.items) ≡ clashes_of_leaf nest.now (live_walk nest.now schedule.now array.0) reader.now load.now (leaf_seen leaf.now)) }
+    ensures fits { IfOk result (λ ps. ¬ (AnyLarge (clashes_of_leaf nest.now (live_walk nest.now schedule.now array.0) reader.now load.now (leaf_seen leaf.now)))) }
+    ensures large { IfErr result (λ e. e ≡ ClashFault.Large → AnyLarge (clashes_of_leaf nest.now (live_walk nest.now schedule.now array.0) reader.now load.now (leaf_seen leaf.now))) }
+{
+    let asked = Walking {
+        nest,
+        loaded: array,
+        stored: array,
+        after: schedule,
+        before: schedule,
+        differ: true,
+    };
+    let drafts = drafts_at(alloc, &asked, reader, load, leaf)?;
     products_of(alloc, drafts)
 }

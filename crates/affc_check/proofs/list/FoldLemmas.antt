@@ -21,7 +21,7 @@ use Rattle.affc_nest.specs.Domains.{gap_row, compare_rows, number_form, with_row
 use Rattle.affc_nest.specs.declared.nest.Nest.{Nest}
 use Rattle.affc_nest.specs.Laws.{HasNest, NamesArrays}
 use Rattle.affc_nest.specs.Nests.{nest_of, nowhere}
-use Rattle.affc_nest.specs.Questions.{with_row, whole_context}
+use Rattle.affc_nest.specs.Questions.{whole_context}
 use Rattle.affc_sched.specs.Legality.{IsAsked}
 use Rattle.affc_quast.specs.Trees.{Tree}
 use Rattle.affc_sched.proofs.Lists.{each_from}
@@ -37,13 +37,15 @@ use Rattle.affc_certvalue.specs.fold.Limits.{IsMarkWithin}
 use Rattle.affc_certvalue.specs.declared.fold.fold.CertFold.{CertFold}
 use Rattle.affc_certvalue.specs.declared.fold.fold.CertModulus.{CertModulus}
 use Rattle.affc_questions.specs.Asked.{IsAlong, AreElements}
+use Rattle.affc_check.specs.list.ByClash.{slice_by, questions_by, clash_at}
+use Rattle.affc_check.specs.Walked.{AreRowsAlong}
 use Rattle.affc_check.specs.list.Certs.{modulus_said, IsFoldSaid}
 use Rattle.affc_check.specs.list.Items.{Item, Question, Shown, LeastShown, ModulusShown, FoldShown, numbered, pair_in, pair_item, mark_items, row_items, rows_items, fold_items}
 use Rattle.affc_check.specs.list.Limits.{AnyPasses}
 use Rattle.affc_check.specs.list.Listed.{AreListed}
 use Rattle.affc_check.specs.list.Passes.{FoldPasses}
 use Rattle.affc_check.specs.list.Walks.{clash_systems, fold_shown, AreRowsAsked, IsFoldAsked}
-use Rattle.affc_check.proofs.list.Over.{are_over}
+use Rattle.affc_check.proofs.list.Over.{is_over, are_over}
 use Rattle.affc_check.proofs.list.PartLemmas.{passes_front, passes_behind, listed_twice}
 
 -- ---- The elements of a clash system along a row
@@ -94,6 +96,21 @@ module _ (nest : Nest) (c : CertFold) (systems : List PairSystem) (over : (s : P
             (All-tail (λ (m : CertModulus). IsMarkWithin nest.context.columns m.least) m ms marks),
       )
 
+-- the same of clash systems by what they say
+module _ (nest : Nest) (c : CertFold) (cs : List Clash) (over : (s : PairSystem) → IsIn (clash_of s) cs → IsOver nest.context.columns (length c.basis.rows) s) where
+  clashes_along : (more : List Affine) (ms : List CertModulus) → ((row : Affine) → IsIn row more → IsIn row c.basis.rows) → All (λ m. IsModulus nest.context.columns m.form) ms
+      → All (λ m. IsMarkWithin nest.context.columns m.least) ms → AreRowsAlong nest cs c.basis.rows more ms
+  clashes_along [] ms there fits marks = tt
+  clashes_along (row ∷ more) [] there fits marks = tt
+  clashes_along (row ∷ more) (m ∷ ms) there fits marks =
+      let fit = All-head (λ (m : CertModulus). IsModulus nest.context.columns m.form) m ms fits in (
+        λ s i. along nest c (s ∷ []) (λ t j. elim j [ inl e ↦ subst (IsOver nest.context.columns (length c.basis.rows)) (sym e) (over s i) | inr k ↦ absurd k ]) row m (there row (inl refl)) fit s (inl refl),
+        fit,
+        All-head (λ (m : CertModulus). IsMarkWithin nest.context.columns m.least) m ms marks,
+        clashes_along more ms (λ r i. there r (inr i)) (All-tail (λ (m : CertModulus). IsModulus nest.context.columns m.form) m ms fits)
+            (All-tail (λ (m : CertModulus). IsMarkWithin nest.context.columns m.least) m ms marks),
+      )
+
 shaped_of : (nest : Nest) (trees : List Tree) → KeepLimits nest trees → AreShaped nest trees
 shaped_of nest trees limits s k e tree at less there = (limits s k e tree at less there).shaped
 
@@ -114,16 +131,23 @@ rows_asked nest schedule trees c systems asked =
     subst (λ (n : Nest). IsFoldAsked n trees c → map clash_of systems ≡ clashes n trees schedule c.array.0 → AreRowsAsked n systems c.basis.rows c.basis.rows c.moduli) (sym asked.scheduled.is)
     (of_program asked.scheduled.program schedule trees c systems asked.scheduled.has asked.named)
 
+clashes_of_program : (program : Program) (schedule : Schedule) (trees : List Tree) (c : CertFold) → HasNest program → NamesArrays program → IsFoldAsked (nest_of program) trees c
+    → AreRowsAlong (nest_of program) (clashes (nest_of program) trees schedule c.array.0) c.basis.rows c.basis.rows c.moduli
+clashes_of_program program schedule trees c has named h =
+    let info = h.of_array.info in
+    clashes_along (nest_of program) c (clashes (nest_of program) trees schedule c.array.0)
+    (λ s i.
+    subst (λ n. IsOver (nest_of program).context.columns n s) (sym h.of_array.dimensions)
+    (is_over program has named trees (shaped_of (nest_of program) trees h.limits) schedule c.array.0 info h.of_array.declared s i))
+    c.basis.rows c.moduli (λ r i. i) h.of_array.moduli h.within.marks
+
+pub clashes_asked : (nest : Nest) (schedule : Schedule) (trees : List Tree) (c : CertFold) → IsAsked nest schedule → IsFoldAsked nest trees c
+    → AreRowsAlong nest (clashes nest trees schedule c.array.0) c.basis.rows c.basis.rows c.moduli
+clashes_asked nest schedule trees c asked =
+    subst (λ (n : Nest). IsFoldAsked n trees c → AreRowsAlong n (clashes n trees schedule c.array.0) c.basis.rows c.basis.rows c.moduli) (sym asked.scheduled.is)
+    (clashes_of_program asked.scheduled.program schedule trees c asked.scheduled.has asked.named)
+
 -- ---- The items depend on the clash systems alone, not on how these are held
-
-abbrev slice_by : (rows : List Affine) → ℕ → Clash → Rows
-slice_by rows k c = with_rows c.system (flat_map (λ r. compare_rows Equal (distance r c.x c.y) (number_form c.system.columns (pos 0))) (take k rows))
-
-abbrev question_by : (rows : List Affine) → ℕ → (row b : Affine) → Clash → (xs ys : List Affine) → Rows
-question_by rows k row b c xs ys = with_row (slice_by rows k c) (gap_row (over_columns c.system.columns b) (distance row xs ys) 0)
-
-abbrev questions_by : (rows : List Affine) → ℕ → (row b : Affine) → Clash → List Rows
-questions_by rows k row b c = question_by rows k row b c c.x c.y ∷ question_by rows k row b c c.y c.x ∷ []
 
 abbrev shown_by : (rows : List Affine) → ℕ → (row b : Affine) → Clash → (xs ys : List Affine) → Rows
 shown_by rows k row b c xs ys =
@@ -135,17 +159,13 @@ abbrev farthest_by : (rows : List Affine) → ℕ → (row b : Affine) → Clash
 farthest_by rows k row b c point =
     if int_lt (value (distance row c.x c.y) point) (pos 0) then Shown (shown_by rows k row b c c.y c.x) point else Shown (shown_by rows k row b c c.x c.y) point
 
-abbrev pair_by : Nest → (rows : List Affine) → ℕ → (row b : Affine) → (p point : List ℤ) → Option Clash → Item
+abbrev pub pair_by : Nest → (rows : List Affine) → ℕ → (row b : Affine) → (p point : List ℤ) → Option Clash → Item
 pair_by nest rows k row b p point None = Shown (nowhere 0) []
 pair_by nest rows k row b p point (Some c) =
     if nat_eq (length point) c.system.columns && is_eq (slice_cmp int_cmp (take nest.context.columns point) p) then farthest_by rows k row b c point else Shown (nowhere 0) []
 
-abbrev clash_at : List Clash → ℤ → Option Clash
-clash_at cs (pos n) = slice_get cs n
-clash_at cs (negsuc n) = None
-
 module _ (nest : Nest) (rows : List Affine) (k : ℕ) (row b : Affine) where
-  distances_are : (systems : List PairSystem) → distance_questions rows k row b systems ≡ flat_map (questions_by rows k row b) (map clash_of systems)
+  pub distances_are : (systems : List PairSystem) → distance_questions rows k row b systems ≡ flat_map (questions_by rows k row b) (map clash_of systems)
   distances_are [] = refl
   distances_are (s ∷ ss) = ap (λ qs. questions_by rows k row b (clash_of s) ++ qs) (distances_are ss)
 
@@ -154,7 +174,7 @@ module _ (nest : Nest) (rows : List Affine) (k : ℕ) (row b : Affine) where
   pair_at p point (s ∷ ss) zero = refl
   pair_at p point (s ∷ ss) (suc n) = pair_at p point ss n
 
-  pair_is : (p point : List ℤ) (systems : List PairSystem) (z : ℤ) → pair_in nest rows k row b p point (numbered systems z) ≡ pair_by nest rows k row b p point (clash_at (map clash_of systems) z)
+  pub pair_is : (p point : List ℤ) (systems : List PairSystem) (z : ℤ) → pair_in nest rows k row b p point (numbered systems z) ≡ pair_by nest rows k row b p point (clash_at (map clash_of systems) z)
   pair_is p point systems (pos n) = pair_at p point systems n
   pair_is p point systems (negsuc n) = refl
 
@@ -225,7 +245,7 @@ mark_passes nest systems rows k row m h =
 
 -- the items of rows
 module _ (nest : Nest) (systems : List PairSystem) (rows : List Affine) (k n : ℕ) (next : n ≡ suc k) (more others : List Affine) (row : Affine) (ms rest : List CertModulus) (m : CertModulus) (is : more ≡ row ∷ others) (js : ms ≡ m ∷ rest) where
-  parted : rows_items nest systems rows k more (map modulus_said ms) ≡ row_items nest systems rows k row (modulus_said m) ++ rows_items nest systems rows n others (map modulus_said rest)
+  pub parted : rows_items nest systems rows k more (map modulus_said ms) ≡ row_items nest systems rows k row (modulus_said m) ++ rows_items nest systems rows n others (map modulus_said rest)
   parted =
       ap (λ z. rows_items nest systems rows k z (map modulus_said ms)) is ∙ ap (λ z. rows_items nest systems rows k (row ∷ others) (map modulus_said z)) js
       ∙ ap (λ j. row_items nest systems rows k row (modulus_said m) ++ rows_items nest systems rows j others (map modulus_said rest)) (sym next)

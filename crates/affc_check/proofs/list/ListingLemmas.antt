@@ -12,14 +12,13 @@ use Rattle.affc_sched.specs.Touched.{Each}
 use Rattle.affc_sched.specs.Questions.{legality_questions}
 use Rattle.affc_quast.specs.Seen.{seen, trees_of}
 use Rattle.affc_quast.specs.Trees.{Tree}
-use Rattle.affc_flow.specs.Questions.{flow_questions}
 use Rattle.affc_life.specs.Clashes.{clash_of, clashes}
 use Rattle.affc_life.specs.Sizes.{AnyLarge}
 use Rattle.affc_cert.specs.declared.cert.Cert.{Cert}
 use Rattle.affc_certvalue.specs.declared.fold.fold.CertFold.{CertFold}
 use Rattle.affc_check.specs.list.Certs.{AreFoldsSaid, AreItems, IsCertWithin, IsFoldSaid}
-use Rattle.affc_check.specs.list.Held.{context_item, flow_item, legality_item}
-use Rattle.affc_check.specs.list.Items.{Item, Question, fold_items}
+use Rattle.affc_check.specs.list.Held.{context_item, legality_item}
+use Rattle.affc_check.specs.list.Items.{Item, Question, FoldShown, fold_items, items}
 use Rattle.affc_check.specs.list.Limits.{AnyPasses, IsFirst, HoldsOfNone}
 use Rattle.affc_check.specs.list.Listed.{AreListed, PartsListed, IsFirstPart}
 use Rattle.affc_check.specs.list.Passes.{FoldPasses, PassesFirst, items_by_tree}
@@ -109,31 +108,41 @@ folds_asked nest c folds w e = subst (Each (IsFoldAsked nest (trees_of c.flow)))
 four : {A : Type 0} (a b c d e : List A) → (((a ++ b) ++ c) ++ d) ++ e ≡ a ++ (b ++ (c ++ (d ++ e)))
 four a b c d e = append_assoc ((a ++ b) ++ c) d e ∙ append_assoc (a ++ b) c (d ++ e) ∙ append_assoc a b (c ++ (d ++ e))
 
-module _ (nest : Nest) (schedule : Schedule) (c : Cert) (p : List ℤ) (point : Item) (i0 i1 i2 i3 i4 i5 i6 : List Item) (systems : List (List PairSystem)) (folds : List CertFold)
-    (context : p ≡ c.context) (of_point : point ≡ context_item nest p) (none : i0 ≡ []) (of_cert : folds ≡ c.folds)
+module _ (nest : Nest) (schedule : Schedule) (c : Cert) (p : List ℤ) (point : Item) (i0 i1 i2 i3 i4 i5 i6 : List Item) (shown : List FoldShown)
+    (context : p ≡ c.context) (of_point : point ≡ context_item nest p) (none : i0 ≡ [])
     (h1 : i1 ≡ i0 ++ point ∷ []) (h2 : i2 ≡ i1 ++ map Question (extent_questions nest)) (h3 : i3 ≡ i2 ++ map Question (bound_questions nest))
-    (h4 : PartsListed i3 i4 (items_by_tree nest (trees_of c.flow))) (h5 : i5 ≡ i4 ++ map legality_item (legality_questions nest schedule))
-    (h6 : FoldsListed nest schedule (trees_of c.flow) folds systems i5 i6) where
+    (h4 : i4 ≡ i3 ++ flat_map (λ items. items) (items_by_tree nest (trees_of c.flow))) (h5 : i5 ≡ i4 ++ map legality_item (legality_questions nest schedule))
+    (h6 : i6 ≡ i5 ++ flat_map (fold_items nest) shown) where
   chain : i6 ≡ context_item nest c.context
       ∷ (map Question (extent_questions nest) ++ (map Question (bound_questions nest) ++ (flat_map (λ items. items) (items_by_tree nest (trees_of c.flow)) ++ (map legality_item (legality_questions nest schedule)
-      ++ flat_map (fold_items nest) (folds_shown folds systems)))))
+      ++ flat_map (fold_items nest) shown))))
   chain =
       let a = map Question (extent_questions nest) in
       let b = map Question (bound_questions nest) in
       let t = flat_map (λ items. items) (items_by_tree nest (trees_of c.flow)) in
       let l = map legality_item (legality_questions nest schedule) in
-      let f = flat_map (fold_items nest) (folds_shown folds systems) in
+      let f = flat_map (fold_items nest) shown in
       let first : i1 ≡ context_item nest c.context ∷ [] = h1 ∙ ap (λ z. z ++ point ∷ []) none ∙ ap (λ z. z ∷ []) (of_point ∙ ap (context_item nest) context) in
-      h6.put ∙ ap (λ z. z ++ f) (h5 ∙ ap (λ z. z ++ l) (h4.put ∙ ap (λ z. z ++ t) (h3 ∙ ap (λ z. z ++ b) (h2 ∙ ap (λ z. z ++ a) first))))
+      h6 ∙ ap (λ z. z ++ f) (h5 ∙ ap (λ z. z ++ l) (h4 ∙ ap (λ z. z ++ t) (h3 ∙ ap (λ z. z ++ b) (h2 ∙ ap (λ z. z ++ a) first))))
       ∙ ap (λ z. context_item nest c.context ∷ z) (four a b t l f)
 
+  -- these are all of them
+  pub are_all : i6 ≡ items nest schedule c.context (trees_of c.flow) shown
+  are_all =
+      chain
+      ∙ ap (λ t. context_item nest c.context ∷ (map Question (extent_questions nest) ++ (map Question (bound_questions nest) ++ (t ++ (map legality_item (legality_questions nest schedule) ++ flat_map (fold_items nest) shown))))) (trees_flat nest (trees_of c.flow))
+
+module _ (nest : Nest) (schedule : Schedule) (c : Cert) (p : List ℤ) (point : Item) (i0 i1 i2 i3 i4 i5 i6 : List Item) (systems : List (List PairSystem)) (folds : List CertFold)
+    (context : p ≡ c.context) (of_point : point ≡ context_item nest p) (none : i0 ≡ []) (of_cert : folds ≡ c.folds)
+    (h1 : i1 ≡ i0 ++ point ∷ []) (h2 : i2 ≡ i1 ++ map Question (extent_questions nest)) (h3 : i3 ≡ i2 ++ map Question (bound_questions nest))
+    (h4 : PartsListed i3 i4 (items_by_tree nest (trees_of c.flow))) (h5 : i5 ≡ i4 ++ map legality_item (legality_questions nest schedule))
+    (h6 : FoldsListed nest schedule (trees_of c.flow) folds systems i5 i6) where
   pub is_listing : IsListing nest schedule c i6 systems
   is_listing =
       record {
         said = subst (λ fs. AreFoldsSaid nest schedule (trees_of c.flow) fs (folds_shown fs systems)) of_cert h6.said;
-        are = chain
-            ∙ ap (λ t. context_item nest c.context ∷ (map Question (extent_questions nest) ++ (map Question (bound_questions nest) ++ (t ++ (map legality_item (legality_questions nest schedule) ++ flat_map (fold_items nest) (folds_shown folds systems)))))) (trees_flat nest (trees_of c.flow))
-            ∙ ap (λ fs. context_item nest c.context ∷ (map Question (extent_questions nest) ++ (map Question (bound_questions nest) ++ (map flow_item (flow_questions nest (trees_of c.flow)) ++ (map legality_item (legality_questions nest schedule) ++ flat_map (fold_items nest) (folds_shown fs systems)))))) of_cert;
+        are = are_all nest schedule c p point i0 i1 i2 i3 i4 i5 i6 (folds_shown folds systems) context of_point none h1 h2 h3 h4.put h5 h6.put
+            ∙ ap (λ fs. items nest schedule c.context (trees_of c.flow) (folds_shown fs systems)) of_cert;
         within = record {
           trees = h4.within;
           folds = subst (HoldsOfNone (FoldPasses nest schedule (trees_of c.flow))) of_cert h6.within;

@@ -42,7 +42,7 @@ module _ (program : Program) (has : HasNest program) (named : NamesArrays progra
   dimensions e i x j of_array =
       as_many program e.part e named (entry_at program has e i) x j ∙ ap (λ n. length (extents_or_none (slice_get (nest_of program).arrays n))) of_array ∙ ap (λ o. length (extents_or_none o)) declared
 
-  is_over : (s : PairSystem) → IsIn (clash_of s) (clashes (nest_of program) trees schedule array) → IsOver (nest_of program).context.columns (length info.extents) s
+  pub is_over : (s : PairSystem) → IsIn (clash_of s) (clashes (nest_of program) trees schedule array) → IsOver (nest_of program).context.columns (length info.extents) s
   is_over s asked =
       let k = made (nest_of program) trees schedule array (clash_of s) asked in
       let over = leaves_are_over (length (number_ranges program.params) + length k.reader.loops) k.tree k.leaf (shape program has trees schedule array shaped (clash_of s) k) k.leaf_in in

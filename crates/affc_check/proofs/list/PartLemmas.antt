@@ -34,11 +34,11 @@ first_later P x xs k n f = record { item = f.item; there = f.there; holds = f.ho
 
 -- ---- Items that pass
 
-in_before : {A : Type 0} (x : A) (xs ys : List A) → IsIn x xs → IsIn x (xs ++ ys)
+pub in_before : {A : Type 0} (x : A) (xs ys : List A) → IsIn x xs → IsIn x (xs ++ ys)
 in_before x [] ys i = absurd i
 in_before x (z ∷ zs) ys i = elim i [ inl e ↦ inl e | inr more ↦ inr (in_before x zs ys more) ]
 
-in_behind : {A : Type 0} (x : A) (xs ys : List A) → IsIn x ys → IsIn x (xs ++ ys)
+pub in_behind : {A : Type 0} (x : A) (xs ys : List A) → IsIn x ys → IsIn x (xs ++ ys)
 in_behind x [] ys i = i
 in_behind x (z ∷ zs) ys i = inr (in_behind x zs ys i)
 

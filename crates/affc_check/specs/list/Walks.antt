@@ -1,5 +1,5 @@
 -- The items of trees and folds, by what the code goes over.
-use Rattle.std.specs.Prelude.{◌≡◌, ℕ, ◌+◌, List, [], ◌∷◌, ◌++◌, length, map, flat_map, Option, slice_get}
+use Rattle.std.specs.Prelude.{◌≡◌, ℕ, ◌+◌, List, [], ◌∷◌, ◌++◌, map, flat_map, Option, slice_get}
 use Rattle.affc_rows.specs.Forms.{Affine}
 use Rattle.affc_system.specs.declared.pairs.PairSystem.{PairSystem}
 use Rattle.affc_trace.specs.declared.schedule.Schedule.{Schedule}
@@ -61,12 +61,6 @@ AreRowsAsked nest systems rows (row ∷ more) [] = Unit {0}
 AreRowsAsked nest systems rows (row ∷ more) (m ∷ ms) =
     Each (IsAlong rows row m.form) systems × IsModulus nest.context.columns m.form × IsMarkWithin nest.context.columns m.least
     × AreRowsAsked nest systems rows more ms
-
--- the same of each fold, with the clash systems of its array and a modulus for each row
-abbrev pub AreFoldsAsked : Nest → List CertFold → List (List PairSystem) → Type 0
-AreFoldsAsked nest [] ss = Unit {0}
-AreFoldsAsked nest (c ∷ cs) [] = Unit {0}
-AreFoldsAsked nest (c ∷ cs) (s ∷ ss) = AreRowsAsked nest s c.basis.rows c.basis.rows c.moduli × (length c.moduli ≡ length c.basis.rows) × AreFoldsAsked nest cs ss
 
 -- what the items of a fold are asked of
 pub record IsFoldAsked (nest : Nest) (trees : List Tree) (c : CertFold) : Type 0 where

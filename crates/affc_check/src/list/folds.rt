@@ -52,7 +52,7 @@ fn distance_tails(
 /// Adds the questions on the distances in the clash systems of a product.
 fn add_distance<'a>(
     alloc: Global,
-    along: &Along<'a>,
+    along: &Along<'_>,
     product: &'a ClashProduct,
     out: &mut Vec<Listed<'a>>,
 ) -> Result<(), Stop>
@@ -67,9 +67,9 @@ fn add_distance<'a>(
 }
 
 /// Adds the questions on the distances in these clash systems. The recursion is into halves, since there may be many.
-fn add_distances<'a>(
+pub(crate) fn add_distances<'a>(
     alloc: Global,
-    along: &Along<'a>,
+    along: &Along<'_>,
     systems: &'a [ClashProduct],
     out: &mut Vec<Listed<'a>>,
 ) -> Result<(), Stop>

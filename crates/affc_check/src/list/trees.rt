@@ -9,8 +9,10 @@ ghost use Rattle.affc_quast.specs.Seen.{seen, trees_of};
 ghost use Rattle.affc_quast.specs.SeenLeaves.{leaf_seen};
 ghost use Rattle.affc_quast.specs.Sources.{loads_in, loads_before};
 ghost use Rattle.affc_life.specs.Asked.{KeepLimits, KeepsLimits, IsLiving, IsPath, AreLoads};
+ghost use Rattle.affc_life.specs.Clashes.{Walk, clashes_of_entry, numbered_loads};
+ghost use Rattle.affc_life.specs.Drafts.{clashes_of_load};
 ghost use Rattle.affc_check.specs.list.Groups.{part_items, AreTreeGroups};
-ghost use Rattle.affc_check.specs.list.Loads.{part_said, IsPart, PartsPut, AreTreeParts};
+ghost use Rattle.affc_check.specs.list.Loads.{part_said, part_clashes, IsPart, PartsPut, AreTreeParts};
 ghost use Rattle.affc_check.specs.list.Passes.{items_by_entry};
 ghost use Rattle.affc_check.specs.list.Walks.{leaf_items, load_items, own_items};
 
@@ -166,6 +168,7 @@ fn part_of<'a>(
     requires load { IsIn load.now reader.now.accesses }
     requires counts { number < loads_in reader.now }
     ensures said { part_said nest.now result ≡ load_items nest.now reader.now load.now (slice_get (map seen trees.now) number) }
+    ensures clashing { (walk : Walk) → part_clashes nest.now walk result ≡ clashes_of_load nest.now walk reader.now (map seen trees.now) (number, load.now) }
     ensures part { IsPart nest.now result }
 {
     let _nest = nest;
@@ -188,7 +191,7 @@ fn add_loads<'a>(
     requires reads { IsLiving nest.now reader.now }
     requires loads { AreLoads nest.now reader.now (map seen trees.now) }
     requires rest { accesses.now ≡ drop number reader.now.accesses }
-    ensures { OnOk result (PartsPut nest.now (own_items nest.now (map seen trees.now) reader.now number accesses.now) out.old out.new) }
+    ensures { OnOk result (PartsPut nest.now (own_items nest.now (map seen trees.now) reader.now number accesses.now) (λ walk. flat_map (clashes_of_load nest.now walk reader.now (map seen trees.now)) (numbered_loads number accesses.now)) out.old out.new) }
 {
     match accesses {
         [] => Ok(()),
@@ -209,7 +212,7 @@ fn add_none(
     loads: usize,
     out: &mut Items<Option<Loaded<'_>>>,
 ) -> Result<(), AllocError>
-    ensures { OnOk result (PartsPut nest.now (replicate loads []) out.old out.new) }
+    ensures { OnOk result (PartsPut nest.now (replicate loads []) (λ walk. []) out.old out.new) }
 {
     if loads == 0 {
         return Ok(());
@@ -228,7 +231,7 @@ fn add_reader<'a>(
     requires nested { IsNest nest.now }
     requires limits { KeepLimits nest.now (map seen trees.now) }
     requires reader { IsIn reader.now nest.now.entries }
-    ensures { OnOk result (PartsPut nest.now (items_by_entry nest.now (map seen trees.now) reader.now) out.old out.new) }
+    ensures { OnOk result (PartsPut nest.now (items_by_entry nest.now (map seen trees.now) reader.now) (λ walk. clashes_of_entry nest.now walk (map seen trees.now) reader.now) out.old out.new) }
 {
     let accesses = reader.accesses.as_slice();
     if !reader.alive {
@@ -248,7 +251,7 @@ fn add_readers<'a>(
     requires nested { IsNest nest.now }
     requires limits { KeepLimits nest.now (map seen trees.now) }
     requires readers { Each (λ e. IsIn e nest.now.entries) readers.now }
-    ensures { OnOk result (PartsPut nest.now (flat_map (items_by_entry nest.now (map seen trees.now)) readers.now) out.old out.new) }
+    ensures { OnOk result (PartsPut nest.now (flat_map (items_by_entry nest.now (map seen trees.now)) readers.now) (λ walk. flat_map (clashes_of_entry nest.now walk (map seen trees.now)) readers.now) out.old out.new) }
 {
     match readers {
         [] => Ok(()),

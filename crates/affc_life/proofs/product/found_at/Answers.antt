@@ -1,25 +1,16 @@
-use Rattle.std.proofs.Common.{sym, subst, ◌∙◌}
-use Rattle.std.specs.List.{All}
-use Rattle.affc_system.specs.Systems.{IsRow}
-use Rattle.affc_products.specs.Blocks.{choices}
-use Rattle.affc_life.specs.Sought.{IsSought}
-use Rattle.affc_life.proofs.SoughtLemmas.{sought_here, sought_later, choice_fits}
+use Rattle.std.proofs.Common.{flat_map, subst, arith}
+use Rattle.std.proofs.lemmas.Option.{slice_get_past}
+use Rattle.affc_life.specs.Products.{systems_in}
+use Rattle.affc_life.specs.Sought.{IsPlace}
 use Rattle.affc_life.proofs.product.found_at.Goals as goal
 
-pub returns-in-Choice-clause-some : goal.returns-in-Choice-clause-some
-returns-in-Choice-clause-some c =
-    c.loop-product.invariant
-    ∙ sought_here c.args.products.now c.loop-product.product-index c.product-item.result c.loop-product-test.true c.product-item.is c.as_slice.result.now c.loop-product.left c.in-Choice.rows c.as_slice.ensures
-    (subst (IsSought (choices c.as_slice.result.now) c.loop-product.left) c.in-Choice.is c.in_ok-rows.ensures)
+pub returns-in-Here-clause-some : goal.returns-in-Here-clause-some
+returns-in-Here-clause-some c = (subst (IsPlace c.args.products.now c.args.number) c.in-Here.is c.in_ok-found.ensures).0
 
-pub loop-product-preserved : goal.loop-product-preserved
-loop-product-preserved c =
-    c.loop-product.invariant
-    ∙ sought_later c.args.products.now c.loop-product.product-index c.product-item.result c.loop-product-test.true c.product-item.is c.as_slice.result.now c.loop-product.left c.in-Past.further c.as_slice.ensures
-    (subst (IsSought (choices c.as_slice.result.now) c.loop-product.left) c.in-Past.is c.in_ok-rows.ensures)
+pub returns-in-Here-clause-fit : goal.returns-in-Here-clause-fit
+returns-in-Here-clause-fit c = (subst (IsPlace c.args.products.now c.args.number) c.in-Here.is c.in_ok-found.ensures).1
 
-pub returns-in-Choice-clause-fit : goal.returns-in-Choice-clause-fit
-returns-in-Choice-clause-fit c =
-    let p = c.product-item.result in
-    choice_fits p.base.system.columns c.as_slice.result.now c.loop-product.left c.in-Choice.rows (subst (All (All (All (IsRow p.base.system.columns)))) (sym c.as_slice.ensures) p.fit)
-    (subst (IsSought (choices c.as_slice.result.now) c.loop-product.left) c.in-Choice.is c.in_ok-rows.ensures)
+pub returns-in-Past-clause-none : goal.returns-in-Past-clause-none
+returns-in-Past-clause-none c =
+    let h = subst (IsPlace c.args.products.now c.args.number) c.in-Past.is c.in_ok-found.ensures in
+    slice_get_past (flat_map systems_in c.args.products.now) c.args.number (omega (arith, h))

@@ -4,7 +4,8 @@ use Rattle.affc_sched.proofs.Lists.{all_there}
 use Rattle.affc_quast.specs.Seen.{seen, trees_of}
 use Rattle.affc_life.specs.Asked.{KeepLimits}
 use Rattle.affc_life.specs.Drafts.{walk_of}
-use Rattle.affc_life.proofs.DraftedLemmas.{target_keeps_width, all_drafted, all_paired}
+use Rattle.affc_life.proofs.DraftedLemmas.{all_drafted, all_paired}
+use Rattle.affc_life.proofs.PairedLemmas.{target_keeps_width}
 use Rattle.affc_life.proofs.walk.drafts_of.Goals as goal
 
 pub add_readers-requires-clause-limits : goal.add_readers-requires-clause-limits
