@@ -297,6 +297,30 @@ impl Ends {
         Ok(())
     }
 
+    /// Takes the nearest ends of a column that rows give with the ends of other columns, of those that aren't found yet.
+    fn take_nearest(
+        &mut self,
+        alloc: Global,
+        rows: &[Form],
+        column: usize,
+    ) -> Result<(), AllocError> {
+        let no_low = self.end(column, true).is_none();
+        let no_high = self.end(column, false).is_none();
+        for (number, row) in rows.iter().enumerate() {
+            let Ok(number) = u32::try_from(number) else {
+                return Err(AllocError);
+            };
+            let ends = self.ends.as_slice();
+            if let Some((end, made)) = end_from(alloc, number, row, column, ends)? {
+                let is_open = if end % 2 == 0 { no_low } else { no_high };
+                if is_open {
+                    self.take_nearer(end, made)?;
+                }
+            }
+        }
+        Ok(())
+    }
+
     /// The low end of a column, or its high one, where it is found.
     fn end(&self, column: usize, is_low: bool) -> Option<&End> {
         match end_number(column, is_low) {
@@ -310,11 +334,19 @@ impl Ends {
         self.end(column, true).is_some() && self.end(column, false).is_some()
     }
 
-    /// The ends that follow from a system's rows: from those of one column first, and then, as long as there are more, for the
-    /// columns that have none from rows whose other columns have theirs.
-    pub(crate) fn of(alloc: Global, system: &System) -> Result<Ends, AllocError> {
-        let columns = system.columns() as usize;
-        let rows = system.rows();
+    /// Whether both ends of each of so many columns are found.
+    fn has_all(&self, columns: usize) -> bool {
+        for column in 0..columns {
+            if !self.has(column) {
+                return false;
+            }
+        }
+        true
+    }
+
+    /// The ends that rows of one column give, and then, as long as there are more, for the columns that have none those that rows give
+    /// whose other columns have theirs.
+    fn first(alloc: Global, columns: usize, rows: &[Form]) -> Result<Ends, AllocError> {
         let mut ends = Ends::none(alloc, columns)?;
         ends.take_lone(alloc, rows)?;
         for _ in 0..columns {
@@ -329,6 +361,37 @@ impl Ends {
             }
         }
         Ok(ends)
+    }
+
+    /// As long as there are more, for each column in turn that has none, the nearest ends that rows give whose other columns have
+    /// theirs.
+    fn nearest(alloc: Global, columns: usize, rows: &[Form]) -> Result<Ends, AllocError> {
+        let mut ends = Ends::none(alloc, columns)?;
+        for _ in 0..columns {
+            let before = ends.order.len();
+            for column in 0..columns {
+                if !ends.has(column) {
+                    ends.take_nearest(alloc, rows, column)?;
+                }
+            }
+            if ends.order.len() == before {
+                break;
+            }
+        }
+        Ok(ends)
+    }
+
+    /// The ends that follow from a system's rows: the first that are found, or the nearest where a column has none among those, since
+    /// ends that lie far may give none to the columns that follow from them.
+    pub(crate) fn of(alloc: Global, system: &System) -> Result<Ends, AllocError> {
+        let columns = system.columns() as usize;
+        let rows = system.rows();
+        let ends = Ends::first(alloc, columns, rows)?;
+        if ends.has_all(columns) {
+            Ok(ends)
+        } else {
+            Ends::nearest(alloc, columns, rows)
+        }
     }
 
     /// The ranges of so many columns.
