@@ -585,6 +585,35 @@ fn tree_of(
     grow(alloc, load, &site, growth, &queue, depth, budget)
 }
 
+/// A tree of the candidates of the last tree's leaves, if one with fewer nodes is found.
+#[inline(never)]
+fn tree_again(
+    alloc: Global,
+    load: &Load<'_>,
+    place: &Place<'_>,
+    growth: &mut Growth,
+    nodes: u32,
+    left: u32,
+    budget: &mut Budget,
+) -> Result<Option<Quast>, Stop>
+    requires load { IsLoad load.now.nest.now load.now.reader.now load.now.access.now load.now.number }
+    ensures right { IfOk result (λ o. IfSome o (λ t. CoversOn load.now.nest.now load.now.reader.now load.now.access.now place.now.path.now place.now.ranges.now left 12 (seen t))) }
+    ensures later { IsLater budget.old budget.new }
+    ensures stop { IfErr result (λ e. e ≡ Stop.Budget → budget.new.limit ≡ Some budget.new.spent) }
+{
+    let Some(list) = candidates_again(alloc, growth)? else {
+        return Ok(None);
+    };
+    let again = tree_of(alloc, load, place, growth, list, left, budget)?;
+    let Some(next) = again else {
+        return Ok(None);
+    };
+    if size_of(&next) < nodes {
+        return Ok(Some(next));
+    }
+    Ok(None)
+}
+
 /// A tree that has been grown, or a smaller one of the candidates of its leaves; it is tried so many times.
 fn smaller(
     alloc: Global,
@@ -605,17 +634,11 @@ fn smaller(
     if times == 0 {
         return Ok(tree);
     }
-    let Some(list) = candidates_again(alloc, growth)? else {
-        return Ok(tree);
-    };
-    let again = tree_of(alloc, load, place, growth, list, left, budget)?;
-    let Some(next) = again else {
-        return Ok(tree);
-    };
-    if size_of(&next) >= size_of(&tree) {
-        return Ok(tree);
+    let nodes = size_of(&tree);
+    match tree_again(alloc, load, place, growth, nodes, left, budget)? {
+        None => Ok(tree),
+        Some(next) => smaller(alloc, load, place, growth, next, times - 1, left, budget),
     }
-    smaller(alloc, load, place, growth, next, times - 1, left, budget)
 }
 
 /// The instances that are drafted at first.

@@ -399,6 +399,26 @@ pub(crate) struct Parting {
     pub(crate) later: usize,
 }
 
+/// The test that parts a candidate from another one, that is wrong at a sample, as they are there.
+#[inline(never)]
+fn parting_row(
+    alloc: Global,
+    load: &Load<'_>,
+    site: &Site<'_>,
+    candidate: &Candidate,
+    wrong: &Candidate,
+    here: &[i128],
+    asks: &mut u32,
+    budget: &mut Budget,
+) -> Result<Option<Form>, Stop>
+    ensures later { IsLater budget.old budget.new }
+    ensures stop { IfErr result (λ e. e ≡ Stop.Budget → budget.new.limit ≡ Some budget.new.spent) }
+{
+    let own = fitted_candidate(alloc, candidate, site)?;
+    let rows = later_rows(alloc, load, &own, wrong, here)?;
+    open_row(alloc, site.place, rows.as_slice(), asks, budget)
+}
+
 /// The test that parts the first of these candidates that can be parted from another one, that is wrong at a sample.
 fn first_parting(
     alloc: Global,
@@ -418,10 +438,9 @@ fn first_parting(
         let Some(candidate) = growth.candidates.get(number) else {
             return Ok(None);
         };
-        let own = fitted_candidate(alloc, candidate, site)?;
-        let rows = later_rows(alloc, load, &own, wrong, sample.here.as_slice())?;
+        let here = sample.here.as_slice();
         let asks = &mut growth.asks;
-        let found = open_row(alloc, site.place, rows.as_slice(), asks, budget)?;
+        let found = parting_row(alloc, load, site, candidate, wrong, here, asks, budget)?;
         if let Some(row) = found {
             return Ok(Some(Parting { row, later: number }));
         }
@@ -513,6 +532,63 @@ fn known_here(
     }
 }
 
+/// The test that helps at a sample where one of the candidates that are held is wrong, and others name the instance.
+#[inline(never)]
+fn parted(
+    alloc: Global,
+    load: &Load<'_>,
+    site: &Site<'_>,
+    growth: &mut Growth,
+    others: &[usize],
+    wrong: Option<&Candidate>,
+    sample: &Sample,
+    budget: &mut Budget,
+) -> Result<Help, Stop>
+    ensures later { IsLater budget.old budget.new }
+    ensures stop { IfErr result (λ e. e ≡ Stop.Budget → budget.new.limit ≡ Some budget.new.spent) }
+{
+    let Some(wrong) = wrong else {
+        return Ok(Help::Nothing);
+    };
+    match first_parting(alloc, load, site, growth, others, wrong, sample, budget)? {
+        None => Ok(Help::Nothing),
+        Some(parting) => Ok(Help::Parted(parting)),
+    }
+}
+
+/// What helps at a sample where one of the candidates that are held is wrong.
+#[inline(never)]
+fn help_by(
+    alloc: Global,
+    load: &Load<'_>,
+    site: &Site<'_>,
+    growth: &mut Growth,
+    held: &[usize],
+    wrong: Option<&Candidate>,
+    sample: &Sample,
+    budget: &mut Budget,
+) -> Result<Help, Stop>
+    ensures later { IsLater budget.old budget.new }
+    ensures stop { IfErr result (λ e. e ≡ Stop.Budget → budget.new.limit ≡ Some budget.new.spent) }
+{
+    let there = naming(alloc, growth.candidates.as_slice(), sample)?;
+    let others = common(alloc, there.as_slice(), held)?;
+    if others.is_empty() {
+        let help = further(alloc, load, growth, there, sample)?;
+        return Ok(help);
+    }
+    parted(
+        alloc,
+        load,
+        site,
+        growth,
+        others.as_slice(),
+        wrong,
+        sample,
+        budget,
+    )
+}
+
 /// What helps at a point where one of the candidates that are held is wrong; without one, where there is a source.
 fn help_at(
     alloc: Global,
@@ -527,25 +603,12 @@ fn help_at(
     ensures later { IsLater budget.old budget.new }
     ensures stop { IfErr result (λ e. e ≡ Stop.Budget → budget.new.limit ≡ Some budget.new.spent) }
 {
-    let wrong = known_here(alloc, site, growth.candidates.as_slice(), held.get(at))?;
-    let found = sampled(alloc, load, site, growth, wrong.as_ref(), budget)?;
-    let Some(sample) = found else {
+    let known = known_here(alloc, site, growth.candidates.as_slice(), held.get(at))?;
+    let wrong = known.as_ref();
+    let Some(sample) = sampled(alloc, load, site, growth, wrong, budget)? else {
         return Ok(Help::Nothing);
     };
-    let there = naming(alloc, growth.candidates.as_slice(), &sample)?;
-    let others = common(alloc, there.as_slice(), held)?;
-    if others.is_empty() {
-        let help = further(alloc, load, growth, there, &sample)?;
-        return Ok(help);
-    }
-    let Some(wrong) = wrong else {
-        return Ok(Help::Nothing);
-    };
-    let others = others.as_slice();
-    match first_parting(alloc, load, site, growth, others, &wrong, &sample, budget)? {
-        None => Ok(Help::Nothing),
-        Some(parting) => Ok(Help::Parted(parting)),
-    }
+    help_by(alloc, load, site, growth, held, wrong, &sample, budget)
 }
 
 /// What helps where none of the candidates that are held is right; with none held, where there is a source.

@@ -1,5 +1,5 @@
 //! The search for the tree of a load, part by part of the box of its parameters and iterators.
-ghost use Rattle.std.specs.Prelude.{◌≡◌, ◌+◌, ◌-◌, ◌≤◌, ◌≤ℤ◌, ◌++◌, ◌∷◌, [], pos, negsuc, map, replicate, length, IfOk, OnOk, IfErr, Some};
+ghost use Rattle.std.specs.Prelude.{◌≡◌, ◌+◌, ◌-◌, ◌≤◌, ◌≤ℤ◌, ◌++◌, ◌∷◌, [], pos, negsuc, map, replicate, length, IfOk, IfSome, OnOk, IfErr, Some};
 ghost use Rattle.std.specs.List.{All};
 ghost use Rattle.affc_system.specs.Boxes.{IsBox, pin};
 ghost use Rattle.affc_system.specs.Systems.{IsPoint};
@@ -22,7 +22,7 @@ use affc_leaf::bounds::middle;
 use affc_order::columns::spread;
 use affc_quast::Quast;
 use affc_rows::Form;
-use affc_split::Budget;
+use affc_split::{Budget, Stop};
 use smallvec::SmallVec;
 use sqlite_items::Items;
 use std::alloc::{AllocError, Global};
@@ -185,6 +185,29 @@ fn longer(alloc: Global, point: &[i64], x: i64) -> Result<Items<i64>, AllocError
     Ok(whole)
 }
 
+/// A tree for a part of the box, if one is found for the whole of it.
+#[inline(never)]
+fn guessed_in(
+    alloc: Global,
+    load: &Load<'_>,
+    point: &[i64],
+    low: i64,
+    high: i64,
+    rest: &[(i64, i64)],
+    left: u32,
+    budget: &mut Budget,
+) -> Result<Option<Quast>, Stop>
+    requires load { IsLoad load.now.nest.now load.now.reader.now load.now.access.now load.now.number }
+    requires ordered { low ≤ℤ high }
+    requires rest_ordered { IsBox rest.now }
+    ensures right { IfOk result (λ o. IfSome o (λ t. Covers load.now.nest.now load.now.reader.now load.now.access.now (part_box point.now low high rest.now) left (seen t))) }
+    ensures later { IsLater budget.old budget.new }
+    ensures stop { IfErr result (λ e. e ≡ Stop.Budget → budget.new.limit ≡ Some budget.new.spent) }
+{
+    let ranges = part_ranges(alloc, point, low, high, rest)?;
+    guessed(alloc, load, &ranges, left, budget)
+}
+
 /// The tree of a load in a part of the box: the first columns have these values, the next one has this range, and the others
 /// have theirs.
 pub(crate) fn search(
@@ -211,8 +234,7 @@ pub(crate) fn search(
     ensures stop { IfErr result (λ e. e ≡ FlowStop.Budget → budget.new.limit ≡ Some budget.new.spent) }
 {
     if low < high {
-        let ranges = part_ranges(alloc, point, low, high, rest)?;
-        if let Some(tree) = guessed(alloc, load, &ranges, left, budget)? {
+        if let Some(tree) = guessed_in(alloc, load, point, low, high, rest, left, budget)? {
             return Ok(tree);
         }
         let at = middle(low, high);

@@ -19,7 +19,7 @@ use Rattle.affc_leaf.specs.Bounds.{bound_at, Inside, top, top_value}
 use Rattle.affc_leaf.specs.Parts.{Placed, PlacedBound, IsEmpty}
 use Rattle.affc_leaf.specs.Leaves.{corner_rows, SameSum, IsLeafBy}
 use Rattle.affc_leaf.specs.Cuts.{IsDivided, IsCutBefore}
-use Rattle.affc_leaf.specs.BoxCuts.{without, IsBoxCut, IsEmptyWith, behind, sum_with}
+use Rattle.affc_leaf.specs.BoxCuts.{without, IsBoxCut, IsEmptyWith, IsProofBehind, behind, sum_with}
 use Rattle.affc_leaf.proofs.BoxRows.{negated_once}
 use Rattle.affc_leaf.proofs.Greatest.{value_top}
 use Rattle.affc_leaf.proofs.Splits.{kept_row, longer, kept_bound}
@@ -265,7 +265,7 @@ leaf_answer_with system bs next cuts own over (Ok (Some p)) b s = leaf_empty_wit
 
 -- ---- one cut less
 
-pub cut_empty_with : (system : Rows) (bs : List Bound) (next : ℕ) (cuts : List Affine) (by : List (ℕ × ℕ)) (g : ℤ) (cut : Affine) (rest q : Proof) → IsBoxCut system bs by g cut
+cut_empty_with : (system : Rows) (bs : List Bound) (next : ℕ) (cuts : List Affine) (by : List (ℕ × ℕ)) (g : ℤ) (cut : Affine) (rest q : Proof) → IsBoxCut system bs by g cut
     → All (IsRow system.columns) cuts → IsEmptyWith system bs next (cuts ++ cut ∷ []) rest → IsCutBefore by g cut rest q → IsEmptyWith system bs next cuts q
 cut_empty_with system bs next cuts by g cut rest (Leaf m) c f a b = absurd b
 cut_empty_with system bs next cuts by g cut rest (Split' form at p low u high) c f a b = absurd b
@@ -281,6 +281,14 @@ cut_empty_with system bs next cuts by g cut rest (Cut' m h row p after) c f a b 
       );
       plain = a.plain;
     })
+
+pub empty_behind : (system : Rows) (bs : List Bound) (next : ℕ) (cuts : List Affine) (by : List (ℕ × ℕ)) (g : ℤ) (cut : Affine) (rest : Option (Box Proof Global))
+    (r : Result (Option (Box Proof Global)) AllocError) → IsBoxCut system bs by g cut → All (IsRow system.columns) cuts
+    → IfSome rest (λ p. IsEmptyWith system bs next (cuts ++ cut ∷ []) p.value) → IfOk r (IsProofBehind by g cut rest) → IfOk r (λ o. IfSome o (λ p. IsEmptyWith system bs next cuts p.value))
+empty_behind system bs next cuts by g cut rest (Err e) c f a b = tt
+empty_behind system bs next cuts by g cut None (Ok whole) c f a b = subst (λ o. IfSome o (λ p. IsEmptyWith system bs next cuts p.value)) (sym b) tt
+empty_behind system bs next cuts by g cut (Some rest) (Ok None) c f a b = absurd b
+empty_behind system bs next cuts by g cut (Some rest) (Ok (Some q)) c f a b = cut_empty_with system bs next cuts by g cut rest.value q.value c f a b
 
 pub empty_alone : (system : Rows) (bs : List Bound) (next : ℕ) (p : Proof) → IsEmptyWith system bs next [] p → IsEmpty system bs next p
 empty_alone system bs next p a = record {

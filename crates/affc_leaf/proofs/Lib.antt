@@ -20,3 +20,4 @@ pub mod Scaled
 pub mod Hard
 pub mod Pinning
 pub mod SmallFronts
+pub mod ExampleProofs

@@ -35,7 +35,7 @@ least_column_is_a_front = pin_front from_two ten_by_three 0 (pos 2) 0 (omega ari
 at_two : pos 0 ≤ℤ (((pos 1 *ℤ pos 2) +ℤ ((pos 0 *ℤ pos 1) +ℤ pos 0)) +ℤ negsuc 1)
 at_two = omega (arith, ints)
 
-first_is_point : IsPoint from_two (pos 2 ∷ pos 1 ∷ [])
+pub first_is_point : IsPoint from_two (pos 2 ∷ pos 1 ∷ [])
 first_is_point = record { width = refl; meets = All-cons (Meets (pos 2 ∷ pos 1 ∷ [])) (plane (pos 1) (pos 0) (negsuc 1)) [] at_two (All-nil (Meets (pos 2 ∷ pos 1 ∷ []))) }
 
 same : pos 1 ≤ℤ pos 1

@@ -1,5 +1,6 @@
 -- Cuts of rows in a box, where some of its columns have one value, and proofs below them.
-use Rattle.std.specs.Prelude.{ℕ, ◌+◌, List, [], ◌∷◌, ◌++◌, map, ℤ, pos, neg_ℤ}
+use Rattle.std.specs.Prelude.{◌≡◌, ℕ, ◌+◌, List, [], ◌∷◌, ◌++◌, map, ℤ, pos, neg_ℤ, Option, Some, None, Box}
+use Rattle.std.specs.declared.alloc.Global.{Global}
 use Rattle.std.specs.List.{All}
 use Rattle.affc_rows.specs.Forms.{Affine, mixed_form}
 use Rattle.affc_system.specs.Systems.{Rows, IsRow, IsPoint, Meets}
@@ -9,6 +10,7 @@ use Rattle.affc_farkas.specs.declared.proof.Proof.{Proof}
 use Rattle.affc_simplex.specs.declared.bounds.Bound.{Bound}
 use Rattle.affc_leaf.specs.Bounds.{Inside, top}
 use Rattle.affc_leaf.specs.Boxed.{SplitsAtZero}
+use Rattle.affc_leaf.specs.Cuts.{IsCutBefore}
 use Rattle.affc_leaf.specs.declared.box_cuts.Seen.{Seen}
 use Rattle.affc_leaf.specs.declared.box_cuts.Seen.TheVariants.{Empty, Point, Nothing}
 use Rattle.affc_leaf.specs.Parts.{Placed, IsEmpty, IsLeast}
@@ -43,3 +45,17 @@ abbrev pub IsSeen : Rows → List Bound → ℕ → Seen → Type 0
 IsSeen system bounds next (Empty proof) = IsEmpty system bounds next proof.value
 IsSeen system bounds next (Point point) = IsLeast system bounds point.items
 IsSeen system bounds next Nothing = Unit {0}
+
+-- a proof without a cut, by the one with it
+abbrev pub IsProofBehind : List (ℕ × ℕ) → ℤ → Affine → Option (Box Proof Global) → Option (Box Proof Global) → Type 0
+IsProofBehind by g row None whole = whole ≡ None
+IsProofBehind by g row (Some rest) None = ⊥
+IsProofBehind by g row (Some rest) (Some whole) = IsCutBefore by g row rest.value whole.value
+
+-- what is seen without a cut, by what is seen with it
+abbrev pub IsSeenBehind : List (ℕ × ℕ) → ℤ → Affine → Seen → Seen → Type 0
+IsSeenBehind by g row (Point point) whole = whole ≡ Point point
+IsSeenBehind by g row Nothing whole = whole ≡ Nothing
+IsSeenBehind by g row (Empty rest) (Point point) = ⊥
+IsSeenBehind by g row (Empty rest) Nothing = ⊥
+IsSeenBehind by g row (Empty rest) (Empty whole) = IsCutBefore by g row rest.value whole.value

@@ -1,6 +1,7 @@
 -- What the definitions give at small boxes. Each value was found by hand from the rules.
-use Rattle.std.specs.Prelude.{◌≡◌, List, [], ◌∷◌, ℤ, pos, negsuc, Box}
+use Rattle.std.specs.Prelude.{◌≡◌, ℕ, List, [], ◌∷◌, ℤ, pos, negsuc, Box}
 use Rattle.std.specs.declared.alloc.Global.{Global}
+use Rattle.std.specs.declared.vec.Vec.{Vec}
 use Rattle.affc_rows.specs.Forms.{Affine}
 use Rattle.affc_system.specs.Order.{LexLe}
 use Rattle.affc_system.specs.Systems.{Rows}
@@ -9,7 +10,8 @@ use Rattle.affc_simplex.specs.declared.bounds.Bound.{Bound}
 use Rattle.affc_leaf.specs.Points.{points}
 use Rattle.affc_leaf.specs.Boxed.{SplitsAtZero, IsLeafProof, IsHard}
 use Rattle.affc_leaf.specs.Cuts.{IsDivided}
-use Rattle.affc_leaf.specs.BoxCuts.{without, behind, sum_with}
+use Rattle.affc_leaf.specs.BoxCuts.{without, behind, sum_with, IsSeen}
+use Rattle.affc_leaf.specs.declared.box_cuts.Seen.TheVariants.{Empty, Point, Nothing}
 use Rattle.affc_leaf.specs.Fronts.{IsFront, IsPinned, pinned}
 
 -- 0 to 9 are ten numbers, -2 to 2 five
@@ -121,3 +123,36 @@ half = record { columns = 1; rows = record { coefs = pos 2 ∷ []; constant = ne
 
 abbrev pub HalfIsHard : Type 0
 HalfIsHard = IsHard half
+
+-- ---- What is seen of a box
+
+-- the row -1 of no columns is below 0, and no row is the sum 0
+abbrev pub SumBelowZeroIsSeen : Type 0
+SumBelowZeroIsSeen = (one none : Box Proof Global) → one.value ≡ Leaf ((0, 1) ∷ []) → none.value ≡ Leaf []
+    → IsSeen contradiction [] 1 (Empty one) × (IsSeen contradiction [] 1 (Empty none) → ⊥)
+
+-- a cut that gives -1 again is row 1 where one row stands before it, and not where two do
+abbrev pub CutIsTheNextRow : Type 0
+CutIsTheNextRow = (p : Box (Unit {0}) Global) (cut : Box Proof Global) → cut.value ≡ Cut' ((0, 1) ∷ []) (pos 1) (record { coefs = []; constant = negsuc 0 }) p (Leaf ((1, 1) ∷ []))
+    → IsSeen contradiction [] 1 (Empty cut) × (IsSeen contradiction [] 2 (Empty cut) → ⊥)
+
+-- a split of x + 1 isn't asked for, though the row before it is -1
+abbrev pub SplitOfMoreIsNotSeen : Type 0
+SplitOfMoreIsNotSeen = (p : Box (Unit {0}) Global) (split : Box Proof Global) → split.value ≡ split_of (pos 1) p (Leaf ((0, 1) ∷ [])) (Leaf ((0, 1) ∷ []))
+    → IsSeen (record { columns = 2; rows = plane (pos 0) (pos 0) (negsuc 0) ∷ [] }) [] 1 (Empty split) → ⊥
+
+-- with (2, 1) in the box no proof is one that it has no point
+abbrev pub BoxWithAPointIsNotEmpty : Type 0
+BoxWithAPointIsNotEmpty = (proof : Box Proof Global) (next : ℕ) → IsSeen from_two ten_by_three next (Empty proof) → ⊥
+
+-- (2, 1) is the least point; (3, 1) is another one, (1, 1) is none, and (2, 0) is none of the box
+abbrev pub LeastPointIsSeen : Type 0
+LeastPointIsSeen = (v : Vec ℤ Global) (next : ℕ)
+    → (v.items ≡ pos 2 ∷ pos 1 ∷ [] → IsSeen from_two ten_by_three next (Point v))
+    × (v.items ≡ pos 3 ∷ pos 1 ∷ [] → IsSeen from_two ten_by_three next (Point v) → ⊥)
+    × (v.items ≡ pos 1 ∷ pos 1 ∷ [] → IsSeen from_two ten_by_three next (Point v) → ⊥)
+    × (v.items ≡ pos 2 ∷ pos 0 ∷ [] → IsSeen from_two ten_by_three next (Point v) → ⊥)
+
+-- nothing may be seen of any box
+abbrev pub NothingMayBeSeen : Type 0
+NothingMayBeSeen = IsSeen from_two ten_by_three 1 Nothing × IsSeen contradiction [] 1 Nothing

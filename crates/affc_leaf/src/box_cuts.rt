@@ -4,7 +4,7 @@ ghost use Rattle.std.specs.List.{All};
 ghost use Rattle.affc_system.specs.Systems.{FitsRow};
 ghost use Rattle.affc_farkas.specs.Multiples.{AreMultipliers};
 ghost use Rattle.affc_leaf.specs.Bounds.{IsBound};
-ghost use Rattle.affc_leaf.specs.BoxCuts.{without, IsBoxCut, IsEmptyWith, IsSeen, behind, sum_with};
+ghost use Rattle.affc_leaf.specs.BoxCuts.{without, IsBoxCut, IsEmptyWith, IsProofBehind, IsSeen, behind, sum_with};
 ghost use Rattle.affc_leaf.specs.Cuts.{IsCutBefore, IsDivided};
 ghost use Rattle.affc_leaf.specs.Leaves.{corner_rows, SameSum};
 ghost use Rattle.affc_leaf.specs.Parts.{IsEmpty};
@@ -263,6 +263,46 @@ pub(crate) fn push_copy(cuts: &mut System, cut: &BoxCut) -> Result<(), AllocErro
     push_row(cuts, row)
 }
 
+/// A proof without a cut, by the one with it.
+#[inline(never)]
+fn behind_cut(
+    alloc: Global,
+    cut: BoxCut,
+    rest: Option<Box<Proof>>,
+) -> Result<Option<Box<Proof>>, AllocError>
+    ensures { IfOk result (IsProofBehind cut.by cut.g cut.row rest) }
+{
+    match rest {
+        Some(rest) => {
+            let proof = before(alloc, cut, rest)?;
+            Ok(Some(proof))
+        }
+        None => Ok(None),
+    }
+}
+
+/// The cut of planned rows in the box, whose row is added to the cuts. `None` where a number is too great.
+#[inline(never)]
+fn push_planned(
+    alloc: Global,
+    system: &System,
+    bounds: &[Bound],
+    cuts: &mut System,
+    planned: &Cut,
+) -> Result<Option<BoxCut>, AllocError>
+    requires width { length bounds.now ≡ system.now.columns }
+    requires ranges { All IsBound bounds.now }
+    requires columns { cuts.old.columns ≡ system.now.columns }
+    ensures cut { IfOk result (λ o. IfSome o (λ c. IsBoxCut system.now bounds.now c.by c.g c.row)) }
+    ensures value { IfOk result (λ o. IfSome o (λ c. cuts.new ≡ record cuts.old { rows = cuts.old.rows ++ c.row ∷ [] })) }
+{
+    let Some(cut) = box_cut(alloc, system, bounds, planned.own.as_slice(), planned.g)? else {
+        return Ok(None);
+    };
+    push_copy(cuts, &cut)?;
+    Ok(Some(cut))
+}
+
 /// The plan's cuts from a number on, and its leaf below them. `None` where one of them fails.
 fn cut_and_leaf(
     alloc: Global,
@@ -291,16 +331,12 @@ fn cut_and_leaf(
     }
     let _cuts = cuts.rows();
     let planned: &Cut = &plan.cuts[from];
-    let Some(cut) = box_cut(alloc, system, bounds, planned.own.as_slice(), planned.g)? else {
+    let Some(cut) = push_planned(alloc, system, bounds, &mut cuts, planned)? else {
         return Ok(None);
     };
-    push_copy(&mut cuts, &cut)?;
-    match cut_and_leaf(alloc, system, bounds, cuts, plan, from + 1, next)? {
-        Some(rest) => {
-            let proof = before(alloc, cut, rest)?;
-            Ok(Some(proof))
-        }
-        None => Ok(None),
+    match cut_and_leaf(alloc, system, bounds, cuts, plan, from + 1, next) {
+        Ok(rest) => behind_cut(alloc, cut, rest),
+        Err(fault) => Err(fault),
     }
 }
 

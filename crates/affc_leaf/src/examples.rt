@@ -1,6 +1,6 @@
 //! What the definitions give at small boxes, as laws: `specs/Examples.antt` says each, with values that were found
 //! by hand from the rules.
-ghost use Rattle.affc_leaf.specs.Examples.{TenTimesFivePoints, FirstColumnDecides, PartIsAtItsGreatest, PartOfAProductIsTaken, ConstantIsRoundedDown, RowsBehindTenOthers, SumOfBothLists, LeastColumnIsAFront, LaterColumnIsNoFront, WiderPartIsNoFront, BoxIsItsOwnFront, OneValueIsLeft, FirstColumnIsPinned, TurnedRangeIsNone, NoSplitOfMoreThanTheColumn, OnlyLeavesAreLeaves, ContradictionIsNotHard, HalfIsHard};
+ghost use Rattle.affc_leaf.specs.Examples.{TenTimesFivePoints, FirstColumnDecides, PartIsAtItsGreatest, PartOfAProductIsTaken, ConstantIsRoundedDown, RowsBehindTenOthers, SumOfBothLists, LeastColumnIsAFront, LaterColumnIsNoFront, WiderPartIsNoFront, BoxIsItsOwnFront, OneValueIsLeft, FirstColumnIsPinned, TurnedRangeIsNone, NoSplitOfMoreThanTheColumn, OnlyLeavesAreLeaves, ContradictionIsNotHard, HalfIsHard, SumBelowZeroIsSeen, CutIsTheNextRow, SplitOfMoreIsNotSeen, BoxWithAPointIsNotEmpty, LeastPointIsSeen, NothingMayBeSeen};
 
 /// How many points a box has, and in which order they are.
 pub fn boxes()
@@ -38,4 +38,14 @@ pub fn proofs()
 pub fn elimination()
     ensures contradiction_is_not_hard { ContradictionIsNotHard }
     ensures half_is_hard { HalfIsHard }
+{}
+
+/// What is seen of a box: proofs that it has no point, its least point, or nothing.
+pub fn seen()
+    ensures sum_below_zero_is_seen { SumBelowZeroIsSeen }
+    ensures cut_is_the_next_row { CutIsTheNextRow }
+    ensures split_of_more_is_not_seen { SplitOfMoreIsNotSeen }
+    ensures box_with_a_point_is_not_empty { BoxWithAPointIsNotEmpty }
+    ensures least_point_is_seen { LeastPointIsSeen }
+    ensures nothing_may_be_seen { NothingMayBeSeen }
 {}

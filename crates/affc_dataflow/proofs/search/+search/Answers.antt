@@ -73,7 +73,7 @@ returns-then-low-high-clause-right t c =
 pub returns-then-low-high-clause-later : goal.returns-then-low-high-clause-later
 returns-then-low-high-clause-later t c =
     then_later c.args.budget.now c.search.new.budget c.search-then-low-high.new.budget
-    (then_later c.args.budget.now c.guessed.new.budget c.search.new.budget c.in_ok-tree.ensures.later c.in_ok-yes.ensures.later) c.in_ok-no.ensures.later
+    (then_later c.args.budget.now c.guessed_in.new.budget c.search.new.budget c.in_ok-tree.ensures.later c.in_ok-yes.ensures.later) c.in_ok-no.ensures.later
 
 pub leaf-requires-clause-slight : goal.leaf-requires-clause-slight
 leaf-requires-clause-slight t c =
