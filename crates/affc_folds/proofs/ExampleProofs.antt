@@ -62,10 +62,10 @@ never_whole f h = no_more h.number (only_one h.number h.decl h.stands) h.unfolde
 left_whole : IsLeftWhole blur []
 left_whole = record { number = 0; decl = _; stands = refl; unfolded = refl }
 
-is_bound : (n : ℕ) → HasBound (onto n)
+pub is_bound : (n : ℕ) → HasBound (onto n)
 is_bound n = record { number = 0; modulus = _; there = refl; marked = refl }
 
-not_bound : (n : ℕ) → HasBound (least n) → ⊥
+pub not_bound : (n : ℕ) → HasBound (least n) → ⊥
 not_bound n h = at h.number h.modulus h.there h.marked
   where
     at : (k : ℕ) (m : Modulus) → slice_get (least n).moduli k ≡ Some m → m.mark ≡ Bound → ⊥

@@ -1,6 +1,7 @@
 pub mod FoldLemmas
 pub mod ListLemmas
 pub mod ExampleProofs
+pub mod SystemExamples
 pub mod CheapestLemmas
 pub mod KeptLemmas
 pub mod ChoiceLemmas

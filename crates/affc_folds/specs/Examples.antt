@@ -1,5 +1,7 @@
 -- What the definitions give at small lists. Each value was found by hand from the rules.
-use Rattle.std.specs.Prelude.{◌≡◌, ℕ, ◌+◌, ◌^◌, pos, List, [], ◌∷◌, Option, Some, None, refl}
+use Rattle.std.specs.Prelude.{◌≡◌, ℕ, ◌+◌, ◌^◌, ℤ, pos, negsuc, true, List, [], ◌∷◌, Option, Some, None, refl}
+use Rattle.affc_rows.specs.Forms.{Affine}
+use Rattle.affc_system.specs.declared.pairs.PairSystem.{PairSystem}
 use Rattle.affc_ast.specs.declared.tree.ArrayId.{ArrayId}
 use Rattle.affc_trace.specs.Dataflow.{LivePair}
 use Rattle.affc_trace.specs.Examples.{blur, together, two}
@@ -12,8 +14,11 @@ use Rattle.affc_basis.specs.Listed.{shape_of}
 use Rattle.affc_basis.specs.Turned.{turned}
 use Rattle.affc_weigh.specs.declared.choice.Choice.{Choice}
 use Rattle.affc_weigh.specs.declared.choice.Price.{Price}
+use Rattle.affc_weigh.specs.declared.ratings.Rated.{Rated}
 use Rattle.affc_weigh.specs.Costs.{Gives, words_cost}
 use Rattle.affc_folds.specs.Folding.{given_for, HasTrueMarks, IsSpent, HasBound, IsLowest, IsLeftWhole, AreFoldsUnder}
+use Rattle.affc_folds.specs.Systems.{IsCopy, IsVoid, AreKept, Adds}
+use Rattle.affc_folds.specs.Tries.{IsEither}
 
 -- ---- Bases
 
@@ -78,6 +83,71 @@ LowestPrices =
     -- the price of the fold itself is missing only where it has a bound
     × (IsLowest (least 3) 2 5 prices → ⊥)
     × IsLowest (onto 3) 2 4 prices
+
+abbrev pub rated : (elements cost : ℕ) → Rated
+rated elements cost = record { fold = least elements; price = record { values = elements ∷ []; cost = cost }; marked = true }
+
+abbrev pub costs_three : Option Price → Choice
+costs_three price = record { cost = 3; number = 0; prices = price ∷ [] }
+
+-- The first fold may stay. Another is taken only where it is the one that was found, costs as much, and the price of the basis that
+-- is chosen isn't missing; that of another may be.
+abbrev pub FirstOrFound : Type 0
+FirstOrFound =
+    let told = costs_three (price (3 ∷ []) 3) in
+    IsEither (onto 3) told (Some (rated 3 3)) (onto 3)
+    × IsEither (onto 3) told None (onto 3)
+    × IsEither (onto 3) told (Some (rated 3 3)) (least 3)
+    × IsEither (onto 3) (record { cost = 3; number = 1; prices = None ∷ price (3 ∷ []) 3 ∷ [] }) (Some (rated 3 3)) (least 3)
+    × (IsEither (onto 3) told (Some (rated 3 3)) (least 4) → ⊥)
+    × (IsEither (onto 3) told None (least 3) → ⊥)
+    × (IsEither (onto 3) told (Some (rated 3 4)) (least 3) → ⊥)
+    × (IsEither (onto 3) told (Some (rated 3 2)) (least 3) → ⊥)
+    × (IsEither (onto 3) (costs_three None) (Some (rated 3 3)) (least 3) → ⊥)
+
+-- ---- Systems
+
+-- x + n is at least 0, and x is from 0 to 9
+pub record IsFrom (n : ℤ) (s : PairSystem) : Type 0 where
+  pub rows : s.system ≡ record { columns = 1; rows = record { coefs = pos 1 ∷ []; constant = n } ∷ [] }
+  pub ranges : s.ranges ≡ (pos 0, pos 9) ∷ []
+
+-- x is at least 3
+abbrev pub IsFromThree : PairSystem → Type 0
+IsFromThree = IsFrom (negsuc 2)
+
+-- x is at least 10, which is no number of the box
+abbrev pub IsFromTen : PairSystem → Type 0
+IsFromTen = IsFrom (negsuc 9)
+
+abbrev pub VoidInTheBox : Type 0
+VoidInTheBox = (s : PairSystem) → (IsFromTen s → IsVoid s) × (IsFromThree s → IsVoid s → ⊥)
+
+-- a copy has the rows, the box and both elements
+abbrev pub CopiesInAll : Type 0
+CopiesInAll = (s t : PairSystem)
+    → IsCopy s s
+    × (IsFromThree s → IsFromTen t → IsCopy s t → ⊥)
+    × (IsFromThree s → t.ranges ≡ [] → IsCopy s t → ⊥)
+    × ((f : Affine) → s.x.items ≡ f ∷ [] → t.x.items ≡ [] → IsCopy s t → ⊥)
+    × ((f : Affine) → s.y.items ≡ f ∷ [] → t.y.items ≡ [] → IsCopy s t → ⊥)
+
+-- what has no point may be left out or kept; what has one may not be left out, and nothing else is kept
+abbrev pub KeptOrNot : Type 0
+KeptOrNot = (three ten : PairSystem) → IsFromThree three → IsFromTen ten
+    → AreKept (ten ∷ three ∷ []) (three ∷ [])
+    × AreKept (ten ∷ three ∷ []) (ten ∷ three ∷ [])
+    × (AreKept (ten ∷ three ∷ []) (ten ∷ []) → ⊥)
+    × (AreKept (ten ∷ []) (three ∷ []) → ⊥)
+
+-- one more is added, or it is passed over where it has no point
+abbrev pub AddedOrNot : Type 0
+AddedOrNot = (three ten : PairSystem) → IsFromThree three → IsFromTen ten
+    → Adds (three ∷ []) [] (three ∷ [])
+    × Adds (ten ∷ []) (three ∷ []) (three ∷ [])
+    × (Adds (three ∷ []) (ten ∷ []) (ten ∷ []) → ⊥)
+    × (Adds (ten ∷ []) (three ∷ []) [] → ⊥)
+    × (Adds (ten ∷ []) [] (three ∷ []) → ⊥)
 
 abbrev pub AreOfTheBlur : List (ArrayId × Basis) → Account → List (ArrayId × Fold) → List (ArrayId × Choice) → Type 0
 AreOfTheBlur bases budget folds choices = AreFoldsUnder (Gives words_cost) blur (LivePair blur together) bases budget folds choices
