@@ -1,0 +1,15 @@
+pub mod LiveLemmas
+pub mod Floors
+pub mod FoundLives
+pub mod Tallies
+pub mod Opens
+pub mod Placing
+pub mod Places
+pub mod Counts
+pub mod Orders
+pub mod Says
+pub mod Goes
+pub mod Faulted
+pub mod Whole
+pub mod Lows
+pub mod ExampleProofs

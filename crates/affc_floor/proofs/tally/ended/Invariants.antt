@@ -1,0 +1,6 @@
+use Rattle.std.proofs.Common.{◌≤◌, length, take}
+use Rattle.affc_floor.specs.Spans.{IsTally, ends_at}
+use Rattle.affc_floor.proofs.tally.ended.Given as goal
+
+abbrev pub invariant-loop-span : goal.invariant-loop-span
+invariant-loop-span l = record { tally : IsTally ends_at l.instants (take l.span-index l.spans) l.counts.items; reached : l.span-index ≤ length l.spans }

@@ -1,0 +1,9 @@
+pub mod Live
+pub mod Laws
+pub mod Spans
+pub mod Lives
+pub mod Positions
+pub mod PositionLaws
+pub mod Faults
+pub mod FaultLaws
+pub mod Examples
