@@ -6,5 +6,11 @@ pub mod FitProofs
 pub mod Readings
 pub mod TurnProofs
 pub mod RuleProofs
+pub mod PieceProofs
 pub mod CounterProofs
 pub mod Steps
+pub mod ConditionReadings
+pub mod DenialLemmas
+pub mod PieceLemmas
+pub mod CapLemmas
+pub mod JoinedLemmas

@@ -1,7 +1,10 @@
 -- A function on trees by one step at each kind of expression, value and statement; and a list of statements as a row.
 use Rattle.std.proofs.Common.{◌≡◌, ℕ, ℤ, Bool, List, [], ◌∷◌, ◌++◌, map, flat_map, refl, ap, ◌∙◌, rules, arith}
 use mathlib.Core.Former.{Count, none_left, one_more}
-use Rattle.affc_ast.specs.declared.tree.Compare.{Compare}
+use Rattle.affc_ast.specs.declared.tree.Cond.{Cond, out-Cond, map-Cond, the_lemmas as cond_lemmas}
+use Rattle.affc_ast.specs.declared.tree.Cond.TheVariants as d
+use Rattle.affc_ast.specs.declared.tree.Cond.TheOpen as layer_d
+use Rattle.affc_ast.specs.declared.tree.Cond.TheOpen.{Cond-F}
 use Rattle.affc_ast.specs.declared.tree.Instance.{Instance}
 use Rattle.affc_ast.specs.declared.tree.Ix.{Ix, out-Ix, map-Ix, the_lemmas as ix_lemmas}
 use Rattle.affc_ast.specs.declared.tree.Ix.TheVariants.{Neg, Add, Sub, Mul, Min, Max, Floord, Ceild, Mod}
@@ -19,9 +22,9 @@ use Rattle.affc_ast.specs.declared.tree.Val.{Val, out-Val, map-Val, the_lemmas a
 use Rattle.affc_ast.specs.declared.tree.Val.TheVariants.{Not, Bin, Shift}
 use Rattle.affc_ast.specs.declared.tree.Val.TheOpen as layer_v
 use Rattle.affc_ast.specs.declared.tree.Val.TheOpen.{Val-F}
-use Rattle.affc_ast.specs.Recursion.{by_ix, by_val, by_stmt, by_each}
+use Rattle.affc_ast.specs.Recursion.{by_ix, by_val, by_cond, by_stmt, by_each}
 use Rattle.affc_ast.specs.Trace.{joined}
-use Rattle.affc_ast.proofs.Outs.{by_ix_out, by_val_out, by_stmt_out}
+use Rattle.affc_ast.proofs.Outs.{by_ix_out, by_val_out, by_cond_out, by_stmt_out}
 
 -- ---- Expressions and values
 
@@ -99,14 +102,29 @@ module _ {A : Type 0} (f : Val-F A → A) where
   pub shift_here : (left : Bool) (a : Val) (by : ℕ) → by_val f (Shift left a by) ≡ f (layer_v.Shift left (by_val f a) by)
   shift_here left a by = by_val_out f (Shift left a by) ∙ ap f (shift_row left a by)
 
+-- ---- Conditions
+
+module _ {A : Type 0} (f : Cond-F A → A) where
+  all_row : (cs : List Cond) → map-Cond Cond A (by_cond f) (out-Cond (d.All cs)) ≡ layer_d.All (map (by_cond f) cs)
+  all_row cs = first_of (simp cond_lemmas, grind (arith, cond_lemmas), search (rules, cond_lemmas))
+
+  any_row : (cs : List Cond) → map-Cond Cond A (by_cond f) (out-Cond (d.Any cs)) ≡ layer_d.Any (map (by_cond f) cs)
+  any_row cs = first_of (simp cond_lemmas, grind (arith, cond_lemmas), search (rules, cond_lemmas))
+
+  pub all_here : (cs : List Cond) → by_cond f (d.All cs) ≡ f (layer_d.All (map (by_cond f) cs))
+  all_here cs = by_cond_out f (d.All cs) ∙ ap f (all_row cs)
+
+  pub any_here : (cs : List Cond) → by_cond f (d.Any cs) ≡ f (layer_d.Any (map (by_cond f) cs))
+  any_here cs = by_cond_out f (d.Any cs) ∙ ap f (any_row cs)
+
 -- ---- Statements
 
 module _ {A : Type 0} (f : Stmt-F A → A) where
   for_row : (iter : List ℕ) (low : Ix) (rel : Rel) (high : Ix) (body : List Stmt) → map-Stmt Stmt A (by_stmt f) (out-Stmt (For iter low rel high body)) ≡ layer_s.For iter low rel high (map (by_stmt f) body)
   for_row iter low rel high body = first_of (simp stmt_lemmas, grind (arith, stmt_lemmas), search (rules, stmt_lemmas))
 
-  if_row : (conds : List Compare) (body : List Stmt) → map-Stmt Stmt A (by_stmt f) (out-Stmt (If conds body)) ≡ layer_s.If conds (map (by_stmt f) body)
-  if_row conds body = first_of (simp stmt_lemmas, grind (arith, stmt_lemmas), search (rules, stmt_lemmas))
+  if_row : (cond : Cond) (body other : List Stmt) → map-Stmt Stmt A (by_stmt f) (out-Stmt (If cond body other)) ≡ layer_s.If cond (map (by_stmt f) body) (map (by_stmt f) other)
+  if_row cond body other = first_of (simp stmt_lemmas, grind (arith, stmt_lemmas), search (rules, stmt_lemmas))
 
   block_row : (locals : List Local) (body : List Stmt) → map-Stmt Stmt A (by_stmt f) (out-Stmt (Block locals body)) ≡ layer_s.Block locals (map (by_stmt f) body)
   block_row locals body = first_of (simp stmt_lemmas, grind (arith, stmt_lemmas), search (rules, stmt_lemmas))
@@ -114,8 +132,8 @@ module _ {A : Type 0} (f : Stmt-F A → A) where
   pub for_here : (iter : List ℕ) (low : Ix) (rel : Rel) (high : Ix) (body : List Stmt) → by_stmt f (For iter low rel high body) ≡ f (layer_s.For iter low rel high (map (by_stmt f) body))
   for_here iter low rel high body = by_stmt_out f (For iter low rel high body) ∙ ap f (for_row iter low rel high body)
 
-  pub if_here : (conds : List Compare) (body : List Stmt) → by_stmt f (If conds body) ≡ f (layer_s.If conds (map (by_stmt f) body))
-  if_here conds body = by_stmt_out f (If conds body) ∙ ap f (if_row conds body)
+  pub if_here : (cond : Cond) (body other : List Stmt) → by_stmt f (If cond body other) ≡ f (layer_s.If cond (map (by_stmt f) body) (map (by_stmt f) other))
+  if_here cond body other = by_stmt_out f (If cond body other) ∙ ap f (if_row cond body other)
 
   pub block_here : (locals : List Local) (body : List Stmt) → by_stmt f (Block locals body) ≡ f (layer_s.Block locals (map (by_stmt f) body))
   block_here locals body = by_stmt_out f (Block locals body) ∙ ap f (block_row locals body)

@@ -2,6 +2,8 @@
 use Rattle.std.specs.Prelude.{◌≡◌, ℕ, ℤ, pos, negsuc, true, false, List, [], ◌∷◌, Some, None, Ok, Err, map, reverse, codes, ◌==◌, if◌then◌else◌}
 use Rattle.affc_ast.specs.declared.tree.ArrayId.{ArrayId}
 use Rattle.affc_ast.specs.declared.tree.Compare.{Compare}
+use Rattle.affc_ast.specs.declared.tree.Cond.{Cond}
+use Rattle.affc_ast.specs.declared.tree.Cond.TheVariants as d
 use Rattle.affc_ast.specs.declared.tree.Decl.{Decl}
 use Rattle.affc_ast.specs.declared.tree.Instance.{Instance}
 use Rattle.affc_ast.specs.declared.tree.Ix.{Ix}
@@ -9,7 +11,7 @@ use Rattle.affc_ast.specs.declared.tree.Ix.TheVariants.{Lit, Name, Neg, Add, Sub
 use Rattle.affc_ast.specs.declared.tree.Op.TheVariants as op
 use Rattle.affc_ast.specs.declared.tree.Param.TheVariants.{Number, Array}
 use Rattle.affc_ast.specs.declared.tree.Program.{Program}
-use Rattle.affc_ast.specs.declared.tree.Rel.TheVariants.{Less, LessEqual, Greater, GreaterEqual, Equal}
+use Rattle.affc_ast.specs.declared.tree.Rel.TheVariants.{Less, LessEqual, Greater, GreaterEqual, Equal, NotEqual}
 use Rattle.affc_ast.specs.declared.tree.Role.{Role}
 use Rattle.affc_ast.specs.declared.tree.Role.TheVariants.{Input, Output, Temp}
 use Rattle.affc_ast.specs.declared.tree.Stmt.{Stmt}
@@ -18,7 +20,8 @@ use Rattle.affc_ast.specs.declared.tree.Val.TheVariants.{Load, Const, Cast, Bin}
 use Rattle.affc_ast.specs.Cause.{Extent, Overflow, OutOfBounds, Unwritten}
 use Rattle.affc_ast.specs.Fits.{Fits, within_ranges, meets, outputs}
 use Rattle.affc_ast.specs.Follows.{Follows, in_source_order, own_place}
-use Rattle.affc_ast.specs.Index.{index_value, compares, conditions}
+use Rattle.affc_ast.specs.Conditions.{condition}
+use Rattle.affc_ast.specs.Index.{index_value, compares}
 use Rattle.affc_ast.specs.Meaning.{Ended, Stuck, meaning}
 use Rattle.affc_ast.specs.Store.{Element, Store, at}
 use Rattle.affc_ast.specs.Trace.{trace, events}
@@ -106,7 +109,8 @@ RelationsCompare =
     (map (λ x. compares LessEqual x (pos 2)) one_two_three ≡ true ∷ true ∷ false ∷ []) ×
     (map (λ x. compares Greater x (pos 2)) one_two_three ≡ false ∷ false ∷ true ∷ []) ×
     (map (λ x. compares GreaterEqual x (pos 2)) one_two_three ≡ false ∷ true ∷ true ∷ []) ×
-    (map (λ x. compares Equal x (pos 2)) one_two_three ≡ false ∷ true ∷ false ∷ [])
+    (map (λ x. compares Equal x (pos 2)) one_two_three ≡ false ∷ true ∷ false ∷ []) ×
+    (map (λ x. compares NotEqual x (pos 2)) one_two_three ≡ true ∷ false ∷ true ∷ [])
 
 abbrev too_great : Compare
 too_great = record { rel = Equal; left = Add greatest_int64 (lit 1); right = lit 0 }
@@ -117,14 +121,35 @@ never = record { rel = Less; left = lit 0; right = lit 0 }
 abbrev pub always : Compare
 always = record { rel = LessEqual; left = lit 0; right = lit 0 }
 
--- 0 < 0 && 2^63 - 1 + 1 == 0 is false; with the two exchanged the sum, which is node 1, is read; behind 0 <= 0, which is
--- nodes 0 to 2, it is node 4
+-- a comparison as the condition of an `if`
+abbrev pub when : Compare → Cond
+when c = d.Compare c.rel c.left c.right
+
+-- 0 < 0 && 2^63 - 1 + 1 == 0 is false; with the two exchanged the sum, which is node 2, is read; behind 0 <= 0, which is
+-- nodes 1 to 3, it is node 5
 abbrev pub FirstFalseEndsTheReading : Type 0
 FirstFalseEndsTheReading =
-    (conditions (never ∷ too_great ∷ []) 0 [] ≡ Ok false) ×
-    (conditions (too_great ∷ never ∷ []) 0 [] ≡ Err (Overflow 1)) ×
-    (conditions (always ∷ too_great ∷ []) 0 [] ≡ Err (Overflow 4)) ×
-    (conditions (always ∷ always ∷ []) 0 [] ≡ Ok true)
+    (condition (d.All (when never ∷ when too_great ∷ [])) 0 [] ≡ Ok false) ×
+    (condition (d.All (when too_great ∷ when never ∷ [])) 0 [] ≡ Err (Overflow 2)) ×
+    (condition (d.All (when always ∷ when too_great ∷ [])) 0 [] ≡ Err (Overflow 5)) ×
+    (condition (d.All (when always ∷ when always ∷ [])) 0 [] ≡ Ok true)
+
+-- 0 <= 0 || 2^63 - 1 + 1 == 0 is true; with the two exchanged the sum is read, and so it is behind 0 < 0; 0 < 0 || 0 < 0 is false
+abbrev pub FirstTrueEndsTheReading : Type 0
+FirstTrueEndsTheReading =
+    (condition (d.Any (when always ∷ when too_great ∷ [])) 0 [] ≡ Ok true) ×
+    (condition (d.Any (when too_great ∷ when always ∷ [])) 0 [] ≡ Err (Overflow 2)) ×
+    (condition (d.Any (when never ∷ when too_great ∷ [])) 0 [] ≡ Err (Overflow 5)) ×
+    (condition (d.Any (when never ∷ when never ∷ [])) 0 [] ≡ Ok false)
+
+-- -6 % 3 == 0 and -5 % 3 != 0 are true, -6 % 3 != 0 and -5 % 3 == 0 are false; the value is the node behind the condition's
+abbrev pub RemaindersAreTested : Type 0
+RemaindersAreTested =
+    (condition (d.Divides (Lit (negsuc 5)) (pos 3) true) 0 [] ≡ Ok true) ×
+    (condition (d.Divides (Lit (negsuc 4)) (pos 3) false) 0 [] ≡ Ok true) ×
+    (condition (d.Divides (Lit (negsuc 5)) (pos 3) false) 0 [] ≡ Ok false) ×
+    (condition (d.Divides (Lit (negsuc 4)) (pos 3) true) 0 [] ≡ Ok false) ×
+    (condition (d.Divides (Add greatest_int64 (lit 1)) (pos 3) true) 4 [] ≡ Err (Overflow 5))
 
 -- ---- Programs over in[N] and out[N], where N is from 0 to 4
 
@@ -157,7 +182,7 @@ program context temps body = record {
 }
 
 -- for (int64_t i = 0; i < N; i++) statement
-abbrev each : Stmt → Stmt
+abbrev pub each : Stmt → Stmt
 each s = For [] (lit 0) Less n (s ∷ [])
 
 -- array[subscript] = from[at];
@@ -244,12 +269,29 @@ ValuesAreReadFromTheLeft =
 
 -- for (i = 0; i < N; i++) if (i >= 1 && i < 2) out[i] = in[i];
 abbrev only_one : Program
-only_one = program [] [] (each (If (record { rel = GreaterEqual; left = i; right = lit 1 } ∷ record { rel = Less; left = i; right = lit 2 } ∷ []) (assign output i input i ∷ [])) ∷ [])
+only_one = program [] [] (each (If (d.All (d.Compare GreaterEqual i (lit 1) ∷ d.Compare Less i (lit 2) ∷ [])) (assign output i input i ∷ []) []) ∷ [])
 
 abbrev pub ConditionsChoose : Type 0
 ConditionsChoose =
     (meaning only_one (pos 3 ∷ []) (three 0 0 0) ≡ Ended (record { store = three 0 8 0; written = (cell 1 1, 8) ∷ []; steps = 4 })) ×
     (trace only_one (pos 3 ∷ []) ≡ instance 0 (pos 1 ∷ []) ∷ [])
+
+-- for (i = 0; i < N; i++) { if (i % 2 == 0) out[i] = in[i]; else { out[i] = in[0]; } out[0] = in[i]; }
+abbrev even_and_odd : Program
+even_and_odd = program [] []
+    (For [] (lit 0) Less n (If (d.Divides i (pos 2) true) (assign output i input i ∷ []) (assign output i input (lit 0) ∷ []) ∷ assign output (lit 0) input i ∷ []) ∷ [])
+
+-- the statements of the body come before those of the other
+abbrev pub OthersRunWhereNot : Type 0
+OthersRunWhereNot =
+    (meaning even_and_odd (pos 3 ∷ []) (three 0 0 0)
+    ≡ Ended (record {
+      store = three 9 7 9;
+      written = (cell 1 0, 7) ∷ (cell 1 0, 7) ∷ (cell 1 1, 7) ∷ (cell 1 0, 8) ∷ (cell 1 2, 9) ∷ (cell 1 0, 9) ∷ [];
+      steps = 9;
+    })) ×
+    (trace even_and_odd (pos 3 ∷ [])
+    ≡ instance 0 (pos 0 ∷ []) ∷ instance 2 (pos 0 ∷ []) ∷ instance 1 (pos 1 ∷ []) ∷ instance 2 (pos 1 ∷ []) ∷ instance 0 (pos 2 ∷ []) ∷ instance 2 (pos 2 ∷ []) ∷ [])
 
 -- for (i = 0; i < 2; i++) for (j = 0; j <= i; j++) out[i] += in[j];
 abbrev triangle : Program
@@ -363,8 +405,8 @@ TemporariesHaveNodes =
 -- subscript 7, the sum of values 8, the load 9 and 10, the cast 11 and the sum in it 12
 abbrev pub ValuesHaveNodes : Type 0
 ValuesHaveNodes =
-    meaning (program [] [] (If (record { rel = Greater; left = n; right = lit 0 } ∷ [])
-    (Assign None output (lit 0 ∷ []) (Bin op.Add (Load input (lit 0 ∷ [])) (Cast (Add greatest_int64 n))) ∷ []) ∷ [])) (pos 1 ∷ []) one
+    meaning (program [] [] (If (d.Compare Greater n (lit 0))
+    (Assign None output (lit 0 ∷ []) (Bin op.Add (Load input (lit 0 ∷ [])) (Cast (Add greatest_int64 n))) ∷ []) [] ∷ [])) (pos 1 ∷ []) one
     ≡ Stuck (Overflow 12) 1
 
 -- out[0] = in[0]; { const int64_t a = N; out[2^63 - 1 + a] = 5ULL; } the first assignment is nodes 2 to 5, the block 6, the

@@ -1,8 +1,11 @@
 -- Which data a program takes, and what it gives back.
-use Rattle.std.specs.Prelude.{◌≡◌, ℕ, ◌^◌, ◌<◌, ℤ, pos, ◌+ℤ◌, ◌-ℤ◌, ◌*ℤ◌, neg_ℤ, Bool, true, false, ◌&&◌, IsTrue, int_le, is_some, List, [], ◌∷◌, get_or, Option, Some, None, Ok, Err, Result, slice_get, filter}
+use Rattle.std.specs.Prelude.{◌≡◌, ℕ, ◌^◌, ◌<◌, ℤ, pos, ◌+ℤ◌, ◌-ℤ◌, ◌*ℤ◌, neg_ℤ, Bool, true, false, ◌&&◌, ◌||◌, IsTrue, int_le, is_some, List, [], ◌∷◌, get_or, Option, Some, None, Ok, Err, Result, slice_get, filter}
 use Rattle.std.specs.Int.{int_max, int_min}
 use Rattle.std.specs.FinMap.Entries.{is_sorted}
 use Rattle.affc_ast.specs.declared.tree.Compare.{Compare}
+use Rattle.affc_ast.specs.declared.tree.Cond.{Cond}
+use Rattle.affc_ast.specs.declared.tree.Cond.TheOpen as cond
+use Rattle.affc_ast.specs.declared.tree.Cond.TheOpen.{Cond-F}
 use Rattle.affc_ast.specs.declared.tree.Decl.{Decl}
 use Rattle.affc_ast.specs.declared.tree.Ix.{Ix}
 use Rattle.affc_ast.specs.declared.tree.Ix.TheOpen.{Ix-F, Lit, Name, Neg, Add, Sub, Mul, Min, Max, Floord, Ceild, Mod}
@@ -14,7 +17,8 @@ use Rattle.affc_ast.specs.declared.tree.Role.TheVariants.{Output}
 use Rattle.affc_ast.specs.Cause.{Cause}
 use Rattle.affc_ast.specs.Index.{floor_of, ceiling_of, remainder_of, compares}
 use Rattle.affc_ast.specs.Meaning.{extents_of, arrays_of}
-use Rattle.affc_ast.specs.Recursion.{by_ix}
+use Rattle.affc_ast.specs.Conditions.{divides, is_so}
+use Rattle.affc_ast.specs.Recursion.{by_ix, by_cond}
 use Rattle.affc_ast.specs.Store.{Element, Store, element_cmp, at}
 use Rattle.affc_ast.specs.Values.{is_within}
 
@@ -62,6 +66,26 @@ holds c names = compares c.rel (whole c.left names) (whole c.right names)
 abbrev pub all_hold : List Compare → (names : List ℤ) → Bool
 all_hold [] names = true
 all_hold (c ∷ cs) names = holds c names && all_hold cs names
+
+-- ---- Conditions
+
+abbrev pub all_true : List Bool → Bool
+all_true [] = true
+all_true (b ∷ bs) = b && all_true bs
+
+abbrev pub some_true : List Bool → Bool
+some_true [] = false
+some_true (b ∷ bs) = b || some_true bs
+
+abbrev pub truth_step : (names : List ℤ) → Cond-F Bool → Bool
+truth_step names (cond.Compare rel left right) = compares rel (whole left names) (whole right names)
+truth_step names (cond.All bs) = all_true bs
+truth_step names (cond.Any bs) = some_true bs
+truth_step names (cond.Divides value by so) = is_so so (divides by (whole value names))
+
+-- whether a condition is true
+abbrev pub is_true_at : Cond → (names : List ℤ) → Bool
+is_true_at c names = by_cond (truth_step names) c
 
 -- ---- Data that fit
 

@@ -1,9 +1,9 @@
 -- Index expressions: bounds, subscripts, extents, the sides of comparisons. They are computed in `int64_t`,
 -- which has exactly 64 bits (7.20.1.1), and a result that it can't hold is undefined (6.5).
-use Rattle.std.specs.Prelude.{ℕ, ◌+◌, ◌^◌, ℤ, pos, negsuc, ◌+ℤ◌, ◌-ℤ◌, ◌*ℤ◌, neg_ℤ, Bool, true, false, ◌&&◌, nat_lt, int_lt, int_le, if◌then◌else◌, List, [], ◌∷◌, get_or, Result, Ok, Err}
+use Rattle.std.specs.Prelude.{ℕ, ◌+◌, ◌^◌, ℤ, pos, negsuc, ◌+ℤ◌, ◌-ℤ◌, ◌*ℤ◌, neg_ℤ, Bool, not, ◌&&◌, nat_lt, int_lt, int_le, if◌then◌else◌, List, [], ◌∷◌, get_or, Result, Ok, Err}
 use Rattle.std.specs.Int.{int_max, int_min, int_div_euclid, int_rem_euclid}
 use Rattle.affc_ast.specs.declared.tree.Rel.{Rel}
-use Rattle.affc_ast.specs.declared.tree.Rel.TheVariants.{Less, LessEqual, Greater, GreaterEqual, Equal}
+use Rattle.affc_ast.specs.declared.tree.Rel.TheVariants.{Less, LessEqual, Greater, GreaterEqual, Equal, NotEqual}
 use Rattle.affc_ast.specs.declared.tree.Compare.{Compare}
 use Rattle.affc_ast.specs.declared.tree.Ix.{Ix}
 use Rattle.affc_ast.specs.declared.tree.Ix.TheOpen.{Ix-F, Lit, Name, Neg, Add, Sub, Mul, Min, Max, Floord, Ceild, Mod}
@@ -96,14 +96,7 @@ compares LessEqual x y = int_le x y
 compares Greater x y = int_lt y x
 compares GreaterEqual x y = int_le y x
 compares Equal x y = int_le x y && int_le y x
+compares NotEqual x y = not (int_le x y && int_le y x)
 
 abbrev pub nodes_of_compare : Compare → ℕ
 nodes_of_compare c = 1 + nodes_of_ix c.left + nodes_of_ix c.right
-
--- Conditions joined by `&&`: read from the left, and the first that is false ends the reading (6.5.13).
-abbrev pub conditions : List Compare → (node : ℕ) → (names : List ℤ) → Result Bool Cause
-conditions [] node names = Ok true
-conditions (c ∷ cs) node names = do
-  x ← index_value c.left (node + 1) names
-  y ← index_value c.right (node + 1 + nodes_of_ix c.left) names
-  if compares c.rel x y then conditions cs (node + nodes_of_compare c) names else Ok false

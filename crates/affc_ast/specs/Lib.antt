@@ -2,10 +2,14 @@ pub mod Recursion
 pub mod Store
 pub mod Cause
 pub mod Index
+pub mod Conditions
 pub mod Values
 pub mod Meaning
 pub mod Fits
 pub mod Trace
+pub mod Denials
+pub mod Pieces
+pub mod Joined
 pub mod Counted
 pub mod Ranks
 pub mod Locals
@@ -14,5 +18,6 @@ pub mod Compiles
 pub mod Names
 pub mod Symbols
 pub mod Examples
+pub mod PieceExamples
 pub mod Rules
 pub mod Counterexamples

@@ -1,16 +1,13 @@
 -- Programs without locals, as each without the prelude.
-use Rattle.std.specs.Prelude.{Bool, true, false, ◌&&◌, List, [], ◌∷◌, map}
+use Rattle.std.specs.Prelude.{Bool, true, false, ◌&&◌, [], ◌∷◌, map}
 use Rattle.affc_ast.specs.declared.tree.Program.{Program}
 use Rattle.affc_ast.specs.declared.tree.Stmt.TheOpen.{Stmt-F, For, If, Assign, Block}
+pub use Rattle.affc_ast.specs.Fits.{all_true}
 use Rattle.affc_ast.specs.Recursion.{by_stmt}
-
-abbrev pub all_true : List Bool → Bool
-all_true [] = true
-all_true (b ∷ bs) = b && all_true bs
 
 abbrev pub plain_step : Stmt-F Bool → Bool
 plain_step (For iter low rel high body) = all_true body
-plain_step (If conds body) = all_true body
+plain_step (If cond body other) = all_true body && all_true other
 plain_step (Assign op array subs value) = true
 plain_step (Block [] body) = all_true body
 plain_step (Block (l ∷ ls) body) = false

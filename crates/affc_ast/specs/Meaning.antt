@@ -15,7 +15,8 @@ use Rattle.affc_ast.specs.declared.tree.Stmt.{Stmt}
 use Rattle.affc_ast.specs.declared.tree.Stmt.TheOpen.{Stmt-F, For, If, Assign, Block}
 use Rattle.affc_ast.specs.declared.tree.Val.{Val}
 use Rattle.affc_ast.specs.Cause.{Cause, Extent, ◌>>=◌}
-use Rattle.affc_ast.specs.Index.{nodes_of_ix, index_value, index_values, in_int64, nodes_of_compare, conditions}
+use Rattle.affc_ast.specs.Conditions.{nodes_of_cond, condition}
+use Rattle.affc_ast.specs.Index.{nodes_of_ix, index_value, index_values, in_int64, nodes_of_compare}
 use Rattle.affc_ast.specs.Values.{Scope, operate, value_of, touch, load}
 use Rattle.affc_ast.specs.Recursion.{by_stmt}
 use Rattle.affc_ast.specs.Store.{Element, Store, with_value}
@@ -71,6 +72,10 @@ assigns_in ps = sum_by (λ p. p.assigns) ps
 -- the position after a statement
 abbrev pub past : Denotation → Position → Position
 past p here = record { node = here.node + p.nodes; statement = here.statement + p.assigns }
+
+-- the position after several statements
+abbrev pub past_all : List Denotation → Position → Position
+past_all ps here = record { node = here.node + nodes_in ps; statement = here.statement + assigns_in ps }
 
 -- the position after the first nodes of a statement
 abbrev pub inside : Position → (nodes : ℕ) → Position
@@ -163,14 +168,14 @@ stmt_step (For iter low rel high body) =
           turns here.node (turns_of rel first last) first (λ x. in_order body (inside here head) (with_iterator scope x)) state));
     }
 -- (6.8.4.1)
-stmt_step (If conds body) =
-    let head = 1 + sum_by nodes_of_compare conds in
+stmt_step (If cond body other) =
+    let head = 1 + nodes_of_cond cond in
     record {
-      nodes = head + nodes_in body;
-      assigns = assigns_in body;
+      nodes = head + nodes_in body + nodes_in other;
+      assigns = assigns_in body + assigns_in other;
       run = λ here scope state.
-          reading (conditions conds (here.node + 1) scope.names) state (λ holds.
-          if holds then in_order body (inside here head) scope state else Ended state);
+          reading (condition cond (here.node + 1) scope.names) state (λ holds.
+          if holds then in_order body (inside here head) scope state else in_order other (past_all body (inside here head)) scope state);
     }
 stmt_step (Assign op array subs e) =
     record {

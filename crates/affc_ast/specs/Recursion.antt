@@ -14,6 +14,11 @@ use Rattle.affc_ast.specs.declared.tree.Val.TheVariants as v
 use Rattle.affc_ast.specs.declared.tree.Val.TheBlock.{more_of-Val, end_of-Val}
 use Rattle.affc_ast.specs.declared.tree.Val.TheOpen as layer_v
 use Rattle.affc_ast.specs.declared.tree.Val.TheOpen.{Val-F}
+use Rattle.affc_ast.specs.declared.tree.Cond.{Cond}
+use Rattle.affc_ast.specs.declared.tree.Cond.TheVariants as d
+use Rattle.affc_ast.specs.declared.tree.Cond.TheBlock.{Row_of-Cond, more_of-Cond, end_of-Cond}
+use Rattle.affc_ast.specs.declared.tree.Cond.TheOpen as layer_d
+use Rattle.affc_ast.specs.declared.tree.Cond.TheOpen.{Cond-F}
 use Rattle.affc_ast.specs.declared.tree.Stmt.{Stmt}
 use Rattle.affc_ast.specs.declared.tree.Stmt.TheVariants as s
 use Rattle.affc_ast.specs.declared.tree.Stmt.TheBlock.{Row_of-Stmt, more_of-Stmt, end_of-Stmt}
@@ -43,11 +48,23 @@ by_val f (v.Not' s (more_of-Val a end_of-Val)) = f (layer_v.Not (by_val f a))
 by_val f (v.Bin' op s (more_of-Val a end_of-Val) t (more_of-Val b end_of-Val)) = f (layer_v.Bin op (by_val f a) (by_val f b))
 by_val f (v.Shift' left s (more_of-Val a end_of-Val) by) = f (layer_v.Shift left (by_val f a) by)
 
--- statements; a step is given the list of what the statements of the body have given
+-- conditions; a step is given the list of what the entries have given
+abbrev mutual
+  pub by_cond : {A : Type 0} → (Cond-F A → A) → Cond → A
+  by_cond f (d.Compare rel left right) = f (layer_d.Compare rel left right)
+  by_cond f (d.All' shape entries) = f (layer_d.All (by_entries f entries))
+  by_cond f (d.Any' shape entries) = f (layer_d.Any (by_entries f entries))
+  by_cond f (d.Divides value by so) = f (layer_d.Divides value by so)
+
+  pub by_entries : {A : Type 0} {n : _} → (Cond-F A → A) → Row_of-Cond n → List A
+  by_entries f end_of-Cond = []
+  by_entries f (more_of-Cond x rest) = by_cond f x ∷ by_entries f rest
+
+-- statements; a step is given the lists of what the statements of each body have given
 abbrev mutual
   pub by_stmt : {A : Type 0} → (Stmt-F A → A) → Stmt → A
   by_stmt f (s.For' iter low rel high shape body) = f (layer_s.For iter low rel high (by_each f body))
-  by_stmt f (s.If' conds shape body) = f (layer_s.If conds (by_each f body))
+  by_stmt f (s.If' cond shape body shape' other) = f (layer_s.If cond (by_each f body) (by_each f other))
   by_stmt f (s.Assign op array subs value) = f (layer_s.Assign op array subs value)
   by_stmt f (s.Block' locals shape body) = f (layer_s.Block locals (by_each f body))
 

@@ -2,6 +2,7 @@
 -- has, where two dimensions end, how elements are ordered, which accesses are seen inside a statement, and which programs
 -- keep to their arrays. Each value was found by hand from the rules.
 use Rattle.std.specs.Prelude.{◌≡◌, ℕ, pos, true, false, List, [], ◌∷◌, codes, None, Err}
+use Rattle.affc_ast.specs.declared.tree.Cond.TheVariants as d
 use Rattle.affc_ast.specs.declared.tree.Ix.{Ix}
 use Rattle.affc_ast.specs.declared.tree.Ix.TheVariants.{Neg, Add, Sub, Mul, Floord}
 use Rattle.affc_ast.specs.declared.tree.Op.TheVariants as op
@@ -15,7 +16,8 @@ use Rattle.affc_ast.specs.Cause.{Overflow, OutOfBounds, Unwritten}
 use Rattle.affc_ast.specs.Counted.{IsCounted, array_count, node_total}
 use Rattle.affc_ast.specs.Examples.{lit, never, greatest_int64, n, i, input, output, temporary, array, program, assign, instance, cell, three, one, copying}
 use Rattle.affc_ast.specs.Fits.{meets}
-use Rattle.affc_ast.specs.Index.{index_value, conditions}
+use Rattle.affc_ast.specs.Conditions.{condition}
+use Rattle.affc_ast.specs.Index.{index_value}
 use Rattle.affc_ast.specs.Meaning.{Ended, Stuck, meaning}
 use Rattle.affc_ast.specs.Names.{is_reserved}
 use Rattle.affc_ast.specs.Ranks.{has_right_ranks}
@@ -36,8 +38,8 @@ too_far = Add greatest_int64 n
 abbrev pub LeftSidesComeFirst : Type 0
 LeftSidesComeFirst =
     (index_value (Add too_great too_great) 0 [] ≡ Err (Overflow 1)) ×
-    (conditions (record { rel = Less; left = too_great; right = too_great } ∷ []) 0 [] ≡ Err (Overflow 1)) ×
-    (conditions (record { rel = Less; left = lit 0; right = too_great } ∷ []) 0 [] ≡ Err (Overflow 2))
+    (condition (d.Compare Less too_great too_great) 0 [] ≡ Err (Overflow 1)) ×
+    (condition (d.Compare Less (lit 0) too_great) 0 [] ≡ Err (Overflow 2))
 
 -- out[0] = in[8] + in[9];
 abbrev pub LeftLoadsComeFirst : Type 0
@@ -134,9 +136,9 @@ ValuesAreStored =
 abbrev many_nodes : Program
 many_nodes = program [] []
     (For [] (Sub n n) Less (Mul n (lit 1))
-    (If (record { rel = Greater; left = Add i (lit 1); right = lit 0 } ∷ [])
+    (If (d.Compare Greater (Add i (lit 1)) (lit 0))
     (Block (record { name = []; value = Floord i (pos 1) } ∷ [])
-    (Assign None output (lit 0 ∷ []) (Bin op.Add (Not (Shift true (Const 5) 1)) (Cast (Neg i))) ∷ []) ∷ []) ∷ [])
+    (Assign None output (lit 0 ∷ []) (Bin op.Add (Not (Shift true (Const 5) 1)) (Cast (Neg i))) ∷ []) ∷ []) [] ∷ [])
     ∷ Assign None output (too_far ∷ []) (Const 0) ∷ [])
 
 -- The loop is node 2, its bounds 3 to 5 and 6 to 8, the `if` 9, its condition 10 to 14, the block 15, the value of the local
@@ -163,8 +165,8 @@ LocalsAreNoIterators =
 abbrev complements : Program
 complements = program [] []
     (For [] (lit 0) Less n
-    (If (record { rel = Greater; left = lit 0; right = i } ∷ []) (Assign None output (i ∷ []) (Const 0) ∷ [])
-    ∷ If (record { rel = Greater; left = i; right = lit 0 } ∷ []) (Assign None output (i ∷ []) (Not (Shift true (Load input (i ∷ [])) 1)) ∷ []) ∷ []) ∷ [])
+    (If (d.Compare Greater (lit 0) i) (Assign None output (i ∷ []) (Const 0) ∷ []) []
+    ∷ If (d.Compare Greater i (lit 0)) (Assign None output (i ∷ []) (Not (Shift true (Load input (i ∷ [])) 1)) ∷ []) [] ∷ []) ∷ [])
 
 abbrev pub ConditionsAreLookedInto : Type 0
 ConditionsAreLookedInto =

@@ -10,7 +10,7 @@ use Rattle.affc_ast.specs.declared.tree.Program.{Program}
 use Rattle.affc_ast.specs.declared.tree.Stmt.TheOpen.{Stmt-F, For, If, Assign, Block}
 use Rattle.affc_ast.specs.declared.tree.Val.{Val}
 use Rattle.affc_ast.specs.declared.tree.Val.TheOpen.{Val-F, Load, Const, Cast, Not, Bin, Shift}
-use Rattle.affc_ast.specs.Fits.{whole, all_hold}
+use Rattle.affc_ast.specs.Fits.{whole, is_true_at}
 use Rattle.affc_ast.specs.Meaning.{turns_of}
 use Rattle.affc_ast.specs.Recursion.{by_val, by_stmt}
 use Rattle.affc_ast.specs.Store.{Element}
@@ -42,9 +42,10 @@ walk_step p (For iter low rel high body) = record {
       let last = whole high (p ++ iterators) in
       flat_map (λ x. in_walk_order body statement (iterators ++ x ∷ [])) (count_from (turns_of rel first last) first);
 }
-walk_step p (If conds body) = record {
-  assigns = assigns_of body;
-  instances = λ statement iterators. if all_hold conds (p ++ iterators) then in_walk_order body statement iterators else [];
+walk_step p (If cond body other) = record {
+  assigns = assigns_of body + assigns_of other;
+  instances = λ statement iterators.
+      if is_true_at cond (p ++ iterators) then in_walk_order body statement iterators else in_walk_order other (statement + assigns_of body) iterators;
 }
 walk_step p (Assign op array subs value) = record {
   assigns = 1;
@@ -71,7 +72,7 @@ joined xs = flat_map (λ x. x) xs
 
 abbrev pub assignments_step : Stmt-F (List Assignment) → List Assignment
 assignments_step (For iter low rel high body) = joined body
-assignments_step (If conds body) = joined body
+assignments_step (If cond body other) = joined body ++ joined other
 assignments_step (Assign op array subs value) = record { op = op; array = array; subs = subs; value = value } ∷ []
 assignments_step (Block locals body) = joined body
 

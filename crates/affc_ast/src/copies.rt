@@ -5,7 +5,7 @@ ghost use Rattle.affc_ast.specs.declared.tree.Val.TheVariants as values;
 ghost use Rattle.affc_ast.specs.declared.tree.Stmt.TheVariants as statements;
 
 use crate::text::Text;
-use crate::tree::{ArrayId, Compare, Decl, Ix, Local, Op, Param, Program, Rel, Stmt, Val};
+use crate::tree::{ArrayId, Compare, Cond, Decl, Ix, Local, Op, Param, Program, Rel, Stmt, Val};
 use sqlite_items::{Boxed, Items};
 use std::alloc::{AllocError, Global};
 
@@ -186,6 +186,48 @@ impl Compare {
     }
 }
 
+impl Cond {
+    /// A copy.
+    #[tactic(auto, using(std::proofs::lemmas::List::take_more, std::proofs::lemmas::List::take_all))]
+    pub fn to_owned(&self, alloc: Global) -> Result<Cond, AllocError>
+        ensures { IfOk result (λ x. x ≡ self.now) }
+    {
+        match self {
+            Cond::Compare { rel, left, right } => {
+                let left = left.to_owned(alloc)?;
+                let right = right.to_owned(alloc)?;
+                Ok(Cond::Compare {
+                    rel: *rel,
+                    left,
+                    right,
+                })
+            }
+            Cond::All(entries) => {
+                let mut made = Items::new(alloc);
+                for entry in entries.as_slice() {
+                    made.push(entry.to_owned(alloc)?)?;
+                }
+                Ok(Cond::All(made))
+            }
+            Cond::Any(entries) => {
+                let mut made = Items::new(alloc);
+                for entry in entries.as_slice() {
+                    made.push(entry.to_owned(alloc)?)?;
+                }
+                Ok(Cond::Any(made))
+            }
+            Cond::Divides { value, by, yes } => {
+                let value = value.to_owned(alloc)?;
+                Ok(Cond::Divides {
+                    value,
+                    by: *by,
+                    yes: *yes,
+                })
+            }
+        }
+    }
+}
+
 impl Local {
     /// A copy.
     pub fn to_owned(&self, alloc: Global) -> Result<Local, AllocError>
@@ -306,11 +348,16 @@ fn for_copy(
     })
 }
 
-fn if_copy(alloc: Global, conds: &Items<Compare>, body: Items<Stmt>) -> Result<Stmt, AllocError>
-    ensures { IfOk result (λ x. x ≡ statements.If conds.now body) }
+fn if_copy(
+    alloc: Global,
+    cond: &Cond,
+    body: Items<Stmt>,
+    other: Items<Stmt>,
+) -> Result<Stmt, AllocError>
+    ensures { IfOk result (λ x. x ≡ statements.If cond.now body other) }
 {
-    let conds = all(alloc, conds.as_slice())?;
-    Ok(Stmt::If { conds, body })
+    let cond = cond.to_owned(alloc)?;
+    Ok(Stmt::If { cond, body, other })
 }
 
 fn assign_copy(
@@ -359,12 +406,16 @@ impl Stmt {
                 }
                 for_copy(alloc, iter, low, *rel, high, made)
             }
-            Stmt::If { conds, body } => {
+            Stmt::If { cond, body, other } => {
                 let mut made = Items::new(alloc);
                 for inner in body.as_slice() {
                     made.push(inner.to_owned(alloc)?)?;
                 }
-                if_copy(alloc, conds, made)
+                let mut others = Items::new(alloc);
+                for inner in other.as_slice() {
+                    others.push(inner.to_owned(alloc)?)?;
+                }
+                if_copy(alloc, cond, made, others)
             }
             Stmt::Assign {
                 op,

@@ -1,12 +1,13 @@
-//! What the definitions give at small programs, as laws: `specs/Examples.antt`, `specs/Rules.antt` and
-//! `specs/Counterexamples.antt` say each, with values that were found by hand from the rules.
+//! What the definitions give at small programs, as laws: `specs/Examples.antt`, `specs/Rules.antt`,
+//! `specs/PieceExamples.antt` and `specs/Counterexamples.antt` say each, with values that were found by hand from the rules.
 
-ghost use Rattle.affc_ast.specs.Examples.{QuotientsRound, RemaindersStartAtZero, LeastAndGreatest, DivisorsAreAtLeastOne, NumbersHaveTheirEnds, NegationsOverflow, ValuesCompute, ValuesWrap, RelationsCompare, FirstFalseEndsTheReading};
-ghost use Rattle.affc_ast.specs.Examples.{CopyLoopCopies, OutputsAreOut, CopyLoopTrace, CopyLoopEvents, CompoundAdds, CompoundSubtracts, ValuesAreReadFromTheLeft, ConditionsChoose, LoopsNest, TwoStatementsTakeTurns, TwoStatementsRun, CompoundLoadsFirst, LocalsSeeThoseBefore};
+ghost use Rattle.affc_ast.specs.Examples.{QuotientsRound, RemaindersStartAtZero, LeastAndGreatest, DivisorsAreAtLeastOne, NumbersHaveTheirEnds, NegationsOverflow, ValuesCompute, ValuesWrap, RelationsCompare, FirstFalseEndsTheReading, FirstTrueEndsTheReading, RemaindersAreTested};
+ghost use Rattle.affc_ast.specs.Examples.{CopyLoopCopies, OutputsAreOut, CopyLoopTrace, CopyLoopEvents, CompoundAdds, CompoundSubtracts, ValuesAreReadFromTheLeft, ConditionsChoose, OthersRunWhereNot, LoopsNest, TwoStatementsTakeTurns, TwoStatementsRun, CompoundLoadsFirst, LocalsSeeThoseBefore};
 ghost use Rattle.affc_ast.specs.Examples.{LoadsStayInside, StoresStayInside, SubscriptsStartAtZero, AccessesAreCounted, StatementsAreCounted, LoadsFindValues, OwnElementComesFirst, ProductsOverflow, ProductsFit, ContextHasNodes, TemporariesHaveNodes, ValuesHaveNodes, BlocksHaveNodes, LocalsHaveNodes, ExtentsAreAtLeastOne, FirstExtentEndsTheReading, ExtentsAreReadInOrder, StepsOverflow};
 ghost use Rattle.affc_ast.specs.Examples.{RangesHoldTheirEnds, SomeDataFit, ValuesKeepTheirSize, ConditionsHaveValues, ContextsHaveNoLimit};
 ghost use Rattle.affc_ast.specs.Examples.{FollowsInAnotherOrder, FollowsAtOtherPlaces};
 ghost use Rattle.affc_ast.specs.Rules.{LeftSidesComeFirst, LeftLoadsComeFirst, LowerBoundsComeFirst, LeftSubscriptsComeFirst, SubscriptsComeBeforeValues, ValuesComeBeforeStores, UnwrittenLoadsAreCounted, SubscriptsHaveTheirExtents, LastSubscriptsRunFastest, ValuesAreStored, EachFormHasItsNodes, NodesAreCounted, LocalsAreNoIterators, ConditionsAreLookedInto, FalseContextsAreUnmet, KeywordsAreReserved, AssignmentsAreToArrays, SubscriptsAreAsDimensions};
+ghost use Rattle.affc_ast.specs.PieceExamples.{RelationsHaveOpposites, DenialsExchange, AtomsCompare, RelationsHavePieces, PiecesStandInOrder, PiecesAreNumbered, JoinedConditions, JoinedPrograms};
 ghost use Rattle.affc_ast.specs.Counterexamples.{OrdersDiffer, ValuesDiffer, PlacesDiffer, OwnElementsDiffer, OutputsDiffer, NamesDiffer, RangesDiffer, ContextsDiffer, RunsDiffer};
 
 /// What expressions, conditions and operations on values give.
@@ -21,6 +22,8 @@ pub fn numbers()
     ensures values_wrap { ValuesWrap }
     ensures relations_compare { RelationsCompare }
     ensures first_false_ends_the_reading { FirstFalseEndsTheReading }
+    ensures first_true_ends_the_reading { FirstTrueEndsTheReading }
+    ensures remainders_are_tested { RemaindersAreTested }
 {}
 
 /// Runs that end, with their traces and events.
@@ -33,6 +36,7 @@ pub fn runs()
     ensures compound_subtracts { CompoundSubtracts }
     ensures values_are_read_from_the_left { ValuesAreReadFromTheLeft }
     ensures conditions_choose { ConditionsChoose }
+    ensures others_run_where_not { OthersRunWhereNot }
     ensures loops_nest { LoopsNest }
     ensures two_statements_take_turns { TwoStatementsTakeTurns }
     ensures two_statements_run { TwoStatementsRun }
@@ -101,6 +105,18 @@ pub fn more_rules()
     ensures keywords_are_reserved { KeywordsAreReserved }
     ensures assignments_are_to_arrays { AssignmentsAreToArrays }
     ensures subscripts_are_as_dimensions { SubscriptsAreAsDimensions }
+{}
+
+/// Denials and pieces of conditions, and which conditions are joined comparisons.
+pub fn pieces()
+    ensures relations_have_opposites { RelationsHaveOpposites }
+    ensures denials_exchange { DenialsExchange }
+    ensures atoms_compare { AtomsCompare }
+    ensures relations_have_pieces { RelationsHavePieces }
+    ensures pieces_stand_in_order { PiecesStandInOrder }
+    ensures pieces_are_numbered { PiecesAreNumbered }
+    ensures joined_conditions { JoinedConditions }
+    ensures joined_programs { JoinedPrograms }
 {}
 
 /// Programs that don't follow another, or don't run as it.

@@ -1,15 +1,21 @@
 //! Laws over the definitions of `specs/`: functions without a body whose contracts are the statements.
 
-ghost use Rattle.std.specs.Prelude.{◌≡◌, ℕ, suc, ℤ, pos, ◌+ℤ◌, ◌<ℤ◌, ◌≤ℤ◌, List, Some, Ok, IsTrue, true, map, if◌then◌else◌};
+ghost use Rattle.std.specs.Prelude.{◌≡◌, ℕ, suc, min, ◌+◌, ◌*◌, ℤ, pos, ◌+ℤ◌, ◌<ℤ◌, ◌≤ℤ◌, List, length, Some, Ok, Bool, IsTrue, true, not, map, if◌then◌else◌};
+ghost use Rattle.std.specs.List.{list_any};
 ghost use Rattle.std.specs.FinMap.Entries.{is_sorted};
+ghost use Rattle.affc_ast.specs.declared.tree.Cond.{Cond};
 ghost use Rattle.affc_ast.specs.declared.tree.Ix.{Ix};
 ghost use Rattle.affc_ast.specs.declared.tree.Program.{Program};
 ghost use Rattle.affc_ast.specs.declared.tree.Rel.TheVariants.{Less, LessEqual};
 ghost use Rattle.affc_ast.specs.Compiles.{RunsAs};
-ghost use Rattle.affc_ast.specs.Fits.{whole_of};
+ghost use Rattle.affc_ast.specs.Conditions.{condition};
+ghost use Rattle.affc_ast.specs.Denials.{denied};
+ghost use Rattle.affc_ast.specs.Fits.{whole_of, all_hold, is_true_at};
 ghost use Rattle.affc_ast.specs.Follows.{elements, in_source_order, own_place};
 ghost use Rattle.affc_ast.specs.Index.{index_value};
+ghost use Rattle.affc_ast.specs.Joined.{is_joined, tests_of};
 ghost use Rattle.affc_ast.specs.Meaning.{State, Ended, meaning, turns_of};
+ghost use Rattle.affc_ast.specs.Pieces.{piece_holds, pieces, counts_of};
 ghost use Rattle.affc_ast.specs.Store.{Element, Store, element_cmp, at, with_value};
 ghost use Rattle.affc_ast.specs.Trace.{trace, store_of};
 
@@ -17,6 +23,34 @@ ghost use Rattle.affc_ast.specs.Trace.{trace, store_of};
 pub fn readings_agree()
     ensures { (e : Ix) (names : List ℤ) (node : ℕ) (x : ℤ) → index_value e node names ≡ Ok x
         → whole_of e names ≡ record { value = x; defined = true } }
+{}
+
+/// What is read of a condition is its truth.
+pub fn conditions_agree()
+    ensures { (cond : Cond) (names : List ℤ) (node : ℕ) (b : Bool) → condition cond node names ≡ Ok b
+        → is_true_at cond names ≡ b }
+{}
+
+/// A denied condition is true exactly where the condition is false.
+pub fn denials_are_true_where_not()
+    ensures { (cond : Cond) (names : List ℤ) → is_true_at (denied cond) names ≡ not (is_true_at cond names) }
+{}
+
+/// A condition is true exactly where one of its pieces holds, and it and its denial have as many pieces as are
+/// counted. To know a sum or a product of such numbers as far as a number, its sides as far as that number are enough.
+pub fn pieces_are_the_condition()
+    ensures truth { (cond : Cond) (names : List ℤ)
+        → list_any (piece_holds names) (pieces cond) ≡ is_true_at cond names }
+    ensures counted { (cond : Cond)
+        → counts_of cond ≡ record { plain = length (pieces cond); denied = length (pieces (denied cond)) } }
+    ensures sums { (most m n : ℕ) → min most (m + n) ≡ min most (min most m + min most n) }
+    ensures products { (most m n : ℕ) → min most (m * n) ≡ min most (min most m * min most n) }
+{}
+
+/// A condition of joined comparisons is true exactly where they all hold.
+pub fn joined_tests_are_the_condition()
+    ensures { (cond : Cond) (names : List ℤ) → IsTrue (is_joined cond)
+        → all_hold (tests_of cond) names ≡ is_true_at cond names }
 {}
 
 /// A loop makes a turn as long as its condition holds, and then none.

@@ -113,14 +113,27 @@ pub enum Rel {
     Greater,
     GreaterEqual,
     Equal,
+    NotEqual,
 }
 
-/// A condition of an `if` or of a `context` line.
+/// A condition of a `context` line.
 #[derive(Drop)]
 pub struct Compare {
     pub rel: Rel,
     pub left: Ix,
     pub right: Ix,
+}
+
+/// A condition of an `if`.
+#[derive(Drop)]
+pub enum Cond {
+    Compare { rel: Rel, left: Ix, right: Ix },
+    /// `&&`: all of them, of which there are at least two, and none is an `All`.
+    All(Items<Cond>),
+    /// `||`: some of them, of which there are at least two, and none is an `Any`.
+    Any(Items<Cond>),
+    /// Whether a number of at least 1 divides the value: `value % by == 0` where `yes`, else `value % by != 0`.
+    Divides { value: Ix, by: i64, yes: bool },
 }
 
 /// A local of a block, `const int64_t name = value;`.
@@ -140,10 +153,11 @@ pub enum Stmt {
         high: Ix,
         body: Items<Stmt>,
     },
-    /// The body runs where all conditions hold.
+    /// The body runs where the condition is true, and the other where it is false.
     If {
-        conds: Items<Compare>,
+        cond: Cond,
         body: Items<Stmt>,
+        other: Items<Stmt>,
     },
     /// `op` is `None` for `=`.
     Assign {

@@ -7,13 +7,14 @@ use Rattle.affc_ast.specs.declared.tree.Program.{Program}
 use Rattle.affc_ast.specs.declared.tree.Stmt.{Stmt}
 use Rattle.affc_ast.specs.declared.tree.Stmt.TheVariants as s
 use Rattle.affc_ast.specs.declared.tree.Stmt.TheBlock.{Row_of-Stmt, more_of-Stmt, end_of-Stmt}
-use Rattle.affc_ast.specs.Fits.{whole, all_hold}
+use Rattle.affc_ast.specs.Fits.{whole, is_true_at}
 use Rattle.affc_ast.specs.Recursion.{by_stmt, by_each}
 use Rattle.affc_ast.proofs.Steps.{row_of, unrolled, flat_unrolled}
 use Rattle.affc_ast.specs.Trace.{assignments, joined, trace}
 use Rattle.affc_trace.specs.Law.{IsIn}
 use Rattle.affc_trace.proofs.LastStores.{map_append}
-use Rattle.affc_domain.specs.Loops.{numbered_step, in_text_order, loop_numbers}
+use Rattle.affc_ast.specs.Denials.{denied}
+use Rattle.affc_domain.specs.Loops.{all_loops, numbered_step, in_text_order, loop_numbers}
 use Rattle.affc_domain.specs.Rounds.{Round, Loop, Test, rounds_step, rounds, goes_on, turns, loops_in}
 use Rattle.affc_domain.proofs.Lists.{both_true, length_map, to_mapped}
 use Rattle.affc_domain.proofs.PlainLemmas.{rounds_of_each}
@@ -30,7 +31,7 @@ turns_long (Loop iter low rel high ∷ rs) names (x ∷ xs) t =
     let a = both_true (int_le (whole low names) x) (goes_on rel x (whole high names) && turns rs (names ++ x ∷ []) xs) t in
     let b = both_true (goes_on rel x (whole high names)) (turns rs (names ++ x ∷ []) xs) a.1 in
     ap suc (turns_long rs (names ++ x ∷ []) xs b.1)
-turns_long (Test conds ∷ rs) names xs t = turns_long rs names xs (both_true (all_hold conds names) (turns rs names xs) t).1
+turns_long (Test cond ∷ rs) names xs t = turns_long rs names xs (both_true (is_true_at cond names) (turns rs names xs) t).1
 
 pub iterators_of_loops : (program : Program) (p : List ℤ) (b : Instance) (rs : List Round) → IsIn b (trace program p) → slice_get (rounds program) b.statement ≡ Some rs → length b.iterators ≡ loops_in rs
 iterators_of_loops program p b rs i e =
@@ -57,7 +58,12 @@ mutual
       under_numbers first (in_text_order (by_each numbered_step body) (suc first))
       ∙ ap (map suc) (row_same_loops body (suc first))
       ∙ sym (under_loop (Loop iter low rel high) (λ rs. refl) (joined (by_each rounds_step body)))
-  same_loops (s.If' conds shape body) first = row_same_loops body first ∙ sym (under_test (Test conds) (λ rs. refl) (joined (by_each rounds_step body)))
+  same_loops (s.If' cond shape body shape' other) first =
+      let next = first + all_loops (by_each numbered_step body) in
+      map_append length (in_text_order (by_each numbered_step body) first) (in_text_order (by_each numbered_step other) next)
+      ∙ ap (λ ns. ns ++ map length (in_text_order (by_each numbered_step other) next)) (row_same_loops body first ∙ sym (under_test (Test cond) (λ rs. refl) (joined (by_each rounds_step body))))
+      ∙ ap (λ ns. map loops_in (map (λ rs. Test cond ∷ rs) (joined (by_each rounds_step body))) ++ ns) (row_same_loops other next ∙ sym (under_test (Test (denied cond)) (λ rs. refl) (joined (by_each rounds_step other))))
+      ∙ sym (map_append loops_in (map (λ rs. Test cond ∷ rs) (joined (by_each rounds_step body))) (map (λ rs. Test (denied cond) ∷ rs) (joined (by_each rounds_step other))))
   same_loops (s.Assign op array subs value) first = refl
   same_loops (s.Block' locals shape body) first = row_same_loops body first
 

@@ -2,6 +2,7 @@ pub mod Lists
 pub mod ColumnLemmas
 pub mod FormLemmas
 pub mod TurnLemmas
+pub mod ConditionLemmas
 pub mod StartLemmas
 pub mod OrderLemmas
 pub mod PlainLemmas

@@ -9,9 +9,9 @@ use Rattle.affc_ast.specs.declared.tree.Stmt.{Stmt}
 use Rattle.affc_ast.specs.declared.tree.Stmt.TheVariants as s
 use Rattle.affc_ast.specs.declared.tree.Stmt.TheBlock.{Row_of-Stmt, more_of-Stmt, end_of-Stmt}
 use Rattle.affc_ast.specs.declared.tree.Program.{Program}
-use Rattle.affc_ast.specs.Fits.{whole, all_hold}
+use Rattle.affc_ast.specs.Fits.{whole, is_true_at}
 use Rattle.affc_ast.specs.Meaning.{turns_of}
-use Rattle.affc_ast.specs.Trace.{count_from, Walk, walk_step, in_walk_order, trace}
+use Rattle.affc_ast.specs.Trace.{count_from, Walk, walk_step, in_walk_order, assigns_of, trace}
 use Rattle.affc_ast.specs.Recursion.{by_stmt, by_each}
 use Rattle.affc_ast.proofs.Steps.{row_of, unrolled}
 use Rattle.affc_trace.specs.Law.{IsIn}
@@ -19,14 +19,15 @@ use Rattle.affc_trace.specs.Orders.{Earlier}
 use Rattle.affc_trace.proofs.Earliers.{earlier_append, earlier_across, earlier_first, earlier_second}
 use Rattle.affc_trace.proofs.Legality.{earlier_is_in, later_is_in}
 use Rattle.affc_trace.proofs.Runs.{slice_left, slice_right, length_append}
-use Rattle.affc_trace.proofs.Once.{in_append, in_flat_map, if_in}
+use Rattle.affc_trace.proofs.Once.{in_append, in_flat_map}
 use Rattle.affc_trace.proofs.Members.{to_flat_map}
 use Rattle.affc_trace.proofs.LastStores.{append_nil}
 use Rattle.affc_trace.proofs.EndedReads.{append_assoc}
 use Rattle.affc_domain.specs.Laws.{OrderOfTheText}
-use Rattle.affc_domain.specs.Loops.{Numbered, in_text_order, numbered_step, loop_numbers, shared, IsBefore}
+use Rattle.affc_domain.specs.Loops.{Numbered, all_loops, in_text_order, numbered_step, loop_numbers, shared, IsBefore}
 use Rattle.affc_domain.proofs.Lists.{to_mapped, length_map}
 use Rattle.affc_domain.proofs.StartLemmas.{StartIn, shared_none, shared_same, starts, row_starts}
+use Rattle.affc_domain.proofs.TurnLemmas.{in_if}
 
 -- ---- Lists
 
@@ -110,7 +111,10 @@ module _ (p : List ℤ) where
   mutual
     counts : (x : Stmt) (first : ℕ) → length ((by_stmt numbered_step x).numbers first) ≡ (by_stmt (walk_step p) x).assigns
     counts (s.For' iter low rel high shape body) first = length_map (λ ls. first ∷ ls) (in_text_order (by_each numbered_step body) (suc first)) ∙ row_counts body (suc first)
-    counts (s.If' conds shape body) first = row_counts body first
+    counts (s.If' cond shape body shape2 other) first =
+        length_append (in_text_order (by_each numbered_step body) first) (in_text_order (by_each numbered_step other) (first + all_loops (by_each numbered_step body)))
+        ∙ ap (λ u. u + length (in_text_order (by_each numbered_step other) (first + all_loops (by_each numbered_step body)))) (row_counts body first)
+        ∙ ap (λ u. assigns_of (by_each (walk_step p) body) + u) (row_counts other (first + all_loops (by_each numbered_step body)))
     counts (s.Assign op array subs value) first = refl
     counts (s.Block' locals shape body) first = row_counts body first
 
@@ -181,13 +185,14 @@ tie_before la lb xs ys m n e h = subst (λ z. IsBefore z xs ys (m < n)) (sym e) 
 before_tied : (la lb : List ℕ) (xs ys : List ℤ) (m n : ℕ) → shared la lb ≡ 0 → Before la lb xs ys m n → m < n
 before_tied la lb xs ys m n e h = subst (λ z. IsBefore z xs ys (m < n)) e h
 
-if_earlier : (t : Bool) (is : List Instance) (a b : Instance) → Earlier (if t then is else []) a b → Earlier is a b
-if_earlier true is a b h = h
-if_earlier false is a b h = absurd h
+if_earlier : (t : Bool) (is js : List Instance) (a b : Instance) → Earlier (if t then is else js) a b → Earlier is a b ⊎ Earlier js a b
+if_earlier true is js a b h = inl h
+if_earlier false is js a b h = inr h
 
-earlier_if : (t : Bool) (is : List Instance) (a b : Instance) → IsIn a (if t then is else []) → Earlier is a b → Earlier (if t then is else []) a b
-earlier_if true is a b i h = h
-earlier_if false is a b i h = absurd i
+earlier_if : (t : Bool) (is js : List Instance) (a b : Instance) → IsIn a (if t then is else js) → IsIn b (if t then is else js) → (IsIn a is → IsIn b is → Earlier is a b) → (IsIn a js → IsIn b js → Earlier js a b)
+    → Earlier (if t then is else js) a b
+earlier_if true is js a b i j f g = f i j
+earlier_if false is js a b i j f g = g i j
 
 alone_first : (n : ℕ) (ls : List ℕ) → slice_get ([] ∷ []) n ≡ Some ls → n ≡ 0
 alone_first zero ls e = refl
@@ -215,7 +220,11 @@ module _ (p : List ℤ) where
     place (s.For' iter low rel high shape body) first k ts b i =
         let r = in_flat_map (λ y. in_walk_order (by_each (walk_step p) body) k (ts ++ y ∷ [])) _ b i in
         under_loop first (in_text_order (by_each numbered_step body) (suc first)) k ts b r.0 (row_place body (suc first) k (ts ++ r.0 ∷ []) b r.2)
-    place (s.If' conds shape body) first k ts b i = row_place body first k ts b (if_in p (all_hold conds (p ++ ts)) b _ i)
+    place (s.If' cond shape body shape2 other) first k ts b i = elim (in_if p (is_true_at cond (p ++ ts)) b (in_walk_order (by_each (walk_step p) body) k ts) _ i) [
+      | inl h ↦ placed_first (in_text_order (by_each numbered_step body) first) _ k ts b (row_place body first k ts b h.1)
+      | inr h ↦ placed_second (in_text_order (by_each numbered_step body) first) _ (assigns_of (by_each (walk_step p) body)) k ts b (row_counts p body first)
+          (row_place other (first + all_loops (by_each numbered_step body)) (k + assigns_of (by_each (walk_step p) body)) ts b h.1)
+    ]
     place (s.Assign op array subs value) first k ts b (inl e) = record { number = 0; is = ap (λ u. u.statement) e ∙ omega arith; loops = []; at = refl; iterators = []; go_on = ap (λ u. u.iterators) e ∙ sym (append_nil ts); long = refl }
     place (s.Assign op array subs value) first k ts b (inr i) = absurd i
     place (s.Block' locals shape body) first k ts b i = row_place body first k ts b i
@@ -253,7 +262,27 @@ module _ (p : List ℤ) where
                 (λ pb. row_ordered body (suc first) k (ts ++ r.0 ∷ []) a b da pb q.1) db,
           )
         ]))
-    ordered (s.If' conds shape body) first k ts a b d e h = row_ordered body first k ts a b d e (if_earlier (all_hold conds (p ++ ts)) _ a b h)
+    ordered (s.If' cond shape body shape2 other) first k ts a b d e h =
+        let n = assigns_of (by_each (walk_step p) body) in
+        let first' = first + all_loops (by_each numbered_step body) in
+        let us = in_text_order (by_each numbered_step body) first in
+        let vs = in_text_order (by_each numbered_step other) first' in
+        let ws = in_walk_order (by_each (walk_step p) body) k ts in
+        let zs = in_walk_order (by_each (walk_step p) other) (k + n) ts in
+        elim (if_earlier (is_true_at cond (p ++ ts)) ws zs a b h) [
+          | inl g ↦
+              let i = both_in ws a b g in
+              let da = row_place body first k ts a i.0 in
+              let db = row_place body first k ts b i.1 in
+              moved (us ++ vs) k ts a b (placed_first us vs k ts a da) d (placed_first us vs k ts b db) e (row_ordered body first k ts a b da db g)
+          | inr g ↦
+              let i = both_in zs a b g in
+              let da = row_place other first' (k + n) ts a i.0 in
+              let db = row_place other first' (k + n) ts b i.1 in
+              moved (us ++ vs) k ts a b (placed_second us vs n k ts a (row_counts p body first) da) d (placed_second us vs n k ts b (row_counts p body first) db) e
+              (before_tie (shared da.loops db.loops) da.iterators db.iterators (da.number < db.number) (length us + da.number < length us + db.number) (more_less (length us) da.number db.number)
+              (row_ordered other first' (k + n) ts a b da db g))
+        ]
     ordered (s.Assign op array subs value) first k ts a b d e (inl h) = absurd h.1
     ordered (s.Assign op array subs value) first k ts a b d e (inr h) = absurd h
     ordered (s.Block' locals shape body) first k ts a b d e h = row_ordered body first k ts a b d e h
@@ -313,8 +342,24 @@ module _ (p : List ℤ) where
               (subst (λ y. (pb : Placed numbers k (ts ++ y ∷ []) b) → IsIn b (f y) → Before da.loops pb.loops da.iterators pb.iterators da.number pb.number → Earlier (f ra.0) a b) q.0
               (λ pb u v. row_earlier body (suc first) k (ts ++ ra.0 ∷ []) a b da pb ra.2 u v) db rb.2 q.1)
         ]
-    earlier (s.If' conds shape body) first k ts a b d e i j h =
-        earlier_if (all_hold conds (p ++ ts)) _ a b i (row_earlier body first k ts a b d e (if_in p (all_hold conds (p ++ ts)) a _ i) (if_in p (all_hold conds (p ++ ts)) b _ j) h)
+    earlier (s.If' cond shape body shape2 other) first k ts a b d e i j h =
+        let n = assigns_of (by_each (walk_step p) body) in
+        let first' = first + all_loops (by_each numbered_step body) in
+        let us = in_text_order (by_each numbered_step body) first in
+        let vs = in_text_order (by_each numbered_step other) first' in
+        let ws = in_walk_order (by_each (walk_step p) body) k ts in
+        let zs = in_walk_order (by_each (walk_step p) other) (k + n) ts in
+        earlier_if (is_true_at cond (p ++ ts)) ws zs a b i j
+        (λ u v.
+        let da = row_place body first k ts a u in
+        let db = row_place body first k ts b v in
+        row_earlier body first k ts a b da db u v (moved (us ++ vs) k ts a b d (placed_first us vs k ts a da) e (placed_first us vs k ts b db) h))
+        (λ u v.
+        let da = row_place other first' (k + n) ts a u in
+        let db = row_place other first' (k + n) ts b v in
+        row_earlier other first' (k + n) ts a b da db u v
+        (before_tie (shared da.loops db.loops) da.iterators db.iterators (length us + da.number < length us + db.number) (da.number < db.number) (less_more (length us) da.number db.number)
+        (moved (us ++ vs) k ts a b d (placed_second us vs n k ts a (row_counts p body first) da) e (placed_second us vs n k ts b (row_counts p body first) db) h)))
     earlier (s.Assign op array subs value) first k ts a b d e i j h =
         let n : d.number ≡ 0 = alone_first d.number d.loops d.at in
         let m : e.number ≡ 0 = alone_first e.number e.loops e.at in

@@ -3,7 +3,7 @@ use Rattle.std.proofs.Common.{◌≡◌, ℕ, zero, suc, ◌+◌, ◌<◌, ◌�
 use Rattle.std.specs.Prelude.{◌&&◌, nat_le, nat_lt, slice_get}
 use Rattle.std.proofs.lemmas.Bool.Decides.{nat_tests}
 use Rattle.std.proofs.lemmas.Option.{none-some, same_Some}
-use Rattle.affc_ast.specs.declared.tree.Compare.{Compare}
+use Rattle.affc_ast.specs.declared.tree.Cond.{Cond}
 use Rattle.affc_ast.specs.declared.tree.Ix.{Ix}
 use Rattle.affc_ast.specs.declared.tree.Program.{Program}
 use Rattle.affc_ast.specs.declared.tree.Rel.{Rel}
@@ -15,9 +15,13 @@ use Rattle.affc_ast.proofs.Steps.{row_of, unrolled, flat_unrolled}
 use Rattle.affc_ast.specs.Trace.{Assignment, assignments_step, assignments, joined}
 use Rattle.affc_trace.proofs.Runs.{length_append}
 use Rattle.affc_domain.specs.Affine.{linear, sees, is_affine}
-use Rattle.affc_domain.specs.Plain.{is_plain, plain_tests, plain_assignment, is_upward, all_of, plain_step, IsPlain}
+use Rattle.affc_domain.specs.Plain.{is_plain, plain_cond, plain_assignment, is_upward, all_of, plain_step, IsPlain}
 use Rattle.affc_domain.specs.Ranges.{number_ranges}
 use Rattle.affc_domain.specs.Rounds.{Round, Loop, Test, rounds_step, rounds, loops_in, comparisons_in}
+use Rattle.affc_ast.specs.Denials.{denied}
+use Rattle.affc_ast.specs.Pieces.{comparisons_of}
+use Rattle.affc_ast.proofs.DenialLemmas.{denied_comparisons}
+use Rattle.affc_domain.proofs.ConditionLemmas.{denied_plain}
 use Rattle.affc_domain.proofs.FormLemmas.{same_affine}
 use Rattle.affc_domain.proofs.Lists.{both_true, true_both, from_map, length_map}
 
@@ -28,7 +32,7 @@ abbrev pub plain_rounds : (params loops comparisons : ℕ) → List Round → Bo
 plain_rounds params loops comparisons [] = nat_le comparisons 32
 plain_rounds params loops comparisons (Loop iter low rel high ∷ rs) =
     nat_lt loops 6 && (is_upward rel && (is_plain (params + loops) low && (is_plain (params + loops) high && plain_rounds params (suc loops) comparisons rs)))
-plain_rounds params loops comparisons (Test conds ∷ rs) = plain_tests (params + loops) conds && plain_rounds params loops (comparisons + length conds) rs
+plain_rounds params loops comparisons (Test cond ∷ rs) = plain_cond (params + loops) cond && plain_rounds params loops (comparisons + comparisons_of cond) rs
 
 -- and of the assignment under them
 abbrev pub PlainThere : (params loops comparisons : ℕ) → List Round → Assignment → Type 0
@@ -66,13 +70,13 @@ loop_there params loops comparisons iter low rel high rss as' few up l h there n
     deeper : (m k : ℕ) → suc m + k ≡ m + suc k
     deeper m k = omega arith
 
-test_there : (params loops comparisons : ℕ) (conds : List Compare) (rss : List (List Round)) (as' : List Assignment)
-    → IsTrue (plain_tests (params + loops) conds) → AllThere params loops (comparisons + length conds) rss as' → AllThere params loops comparisons (map (λ rs. Test conds ∷ rs) rss) as'
-test_there params loops comparisons conds rss as' tests there n rs a e f =
-    let g = from_map (λ qs. Test conds ∷ qs) rss n rs e in
+test_there : (params loops comparisons : ℕ) (cond : Cond) (rss : List (List Round)) (as' : List Assignment)
+    → IsTrue (plain_cond (params + loops) cond) → AllThere params loops (comparisons + comparisons_of cond) rss as' → AllThere params loops comparisons (map (λ rs. Test cond ∷ rs) rss) as'
+test_there params loops comparisons cond rss as' tests there n rs a e f =
+    let g = from_map (λ qs. Test cond ∷ qs) rss n rs e in
     let t = there n g.0 a g.1 f in
     subst (λ qs. PlainThere params loops comparisons qs a) (sym g.2)
-    (true_both (plain_tests (params + loops) conds) (plain_rounds params loops (comparisons + length conds) g.0) tests t.0, t.1)
+    (true_both (plain_cond (params + loops) cond) (plain_rounds params loops (comparisons + comparisons_of cond) g.0) tests t.0, t.1)
 
 alone_there : (params loops comparisons : ℕ) (a : Assignment) → IsTrue (nat_le comparisons 32) → IsTrue (plain_assignment (params + loops) a) → AllThere params loops comparisons ([] ∷ []) (a ∷ [])
 alone_there params loops comparisons a few plain zero rs b e f =
@@ -89,7 +93,11 @@ mutual
   -- as many entries as assignments
   same_count : (x : Stmt) → length (by_stmt rounds_step x) ≡ length (by_stmt assignments_step x)
   same_count (s.For' iter low rel high shape body) = length_map (λ rs. Loop iter low rel high ∷ rs) (joined (by_each rounds_step body)) ∙ row_same_count body
-  same_count (s.If' conds shape body) = length_map (λ rs. Test conds ∷ rs) (joined (by_each rounds_step body)) ∙ row_same_count body
+  same_count (s.If' cond shape body shape' other) =
+      length_append (map (λ rs. Test cond ∷ rs) (joined (by_each rounds_step body))) (map (λ rs. Test (denied cond) ∷ rs) (joined (by_each rounds_step other)))
+      ∙ ap (λ u. u + length (map (λ rs. Test (denied cond) ∷ rs) (joined (by_each rounds_step other)))) (length_map (λ rs. Test cond ∷ rs) (joined (by_each rounds_step body)) ∙ row_same_count body)
+      ∙ ap (λ u. length (joined (by_each assignments_step body)) + u) (length_map (λ rs. Test (denied cond) ∷ rs) (joined (by_each rounds_step other)) ∙ row_same_count other)
+      ∙ sym (length_append (joined (by_each assignments_step body)) (joined (by_each assignments_step other)))
   same_count (s.Assign op array subs value) = refl
   same_count (s.Block' locals shape body) = row_same_count body
 
@@ -110,9 +118,16 @@ module _ (params : ℕ) where
         let c = both_true (is_plain (params + loops) low) _ b.1 in
         let d = both_true (is_plain (params + loops) high) (all_of (by_each (plain_step params) body) (suc loops) comparisons) c.1 in
         loop_there params loops comparisons iter low rel high (joined (by_each rounds_step body)) (joined (by_each assignments_step body)) a.0 b.0 c.0 d.0 (row_plain_there body (suc loops) comparisons d.1)
-    plain_there (s.If' conds shape body) loops comparisons h =
-        let a = both_true (plain_tests (params + loops) conds) (all_of (by_each (plain_step params) body) loops (comparisons + length conds)) h in
-        test_there params loops comparisons conds (joined (by_each rounds_step body)) (joined (by_each assignments_step body)) a.0 (row_plain_there body loops (comparisons + length conds) a.1)
+    plain_there (s.If' cond shape body shape' other) loops comparisons h =
+        let more = comparisons + comparisons_of cond in
+        let a = both_true (plain_cond (params + loops) cond) _ h in
+        let b = both_true (all_of (by_each (plain_step params) body) loops more) (all_of (by_each (plain_step params) other) loops more) a.1 in
+        append_there params loops comparisons (map (λ rs. Test cond ∷ rs) (joined (by_each rounds_step body))) (map (λ rs. Test (denied cond) ∷ rs) (joined (by_each rounds_step other)))
+        (joined (by_each assignments_step body)) (joined (by_each assignments_step other))
+        (length_map (λ rs. Test cond ∷ rs) (joined (by_each rounds_step body)) ∙ row_same_count body)
+        (test_there params loops comparisons cond (joined (by_each rounds_step body)) (joined (by_each assignments_step body)) a.0 (row_plain_there body loops more b.0))
+        (test_there params loops comparisons (denied cond) (joined (by_each rounds_step other)) (joined (by_each assignments_step other)) (denied_plain (params + loops) cond ∙ a.0)
+        (subst (λ n. AllThere params loops (comparisons + n) (joined (by_each rounds_step other)) (joined (by_each assignments_step other))) (sym (denied_comparisons cond)) (row_plain_there other loops more b.1)))
     plain_there (s.Assign op array subs value) loops comparisons h =
         let a = both_true (nat_le comparisons 32) (plain_assignment (params + loops) (record { op = op; array = array; subs = subs; value = value })) h in
         alone_there params loops comparisons (record { op = op; array = array; subs = subs; value = value }) a.0 a.1
@@ -176,8 +191,8 @@ few_loops params loops comparisons (Loop iter low rel high ∷ rs) few h =
   where
     less : (m n : ℕ) → nat_lt m n ≡ true → m < n
     less m n e = grind (arith, nat_tests)
-few_loops params loops comparisons (Test conds ∷ rs) few h =
-    few_loops params loops (comparisons + length conds) rs few (both_true (plain_tests (params + loops) conds) (plain_rounds params loops (comparisons + length conds) rs) h).1
+few_loops params loops comparisons (Test cond ∷ rs) few h =
+    few_loops params loops (comparisons + comparisons_of cond) rs few (both_true (plain_cond (params + loops) cond) (plain_rounds params loops (comparisons + comparisons_of cond) rs) h).1
 
 pub few_comparisons : (params loops comparisons : ℕ) (rs : List Round) → IsTrue (plain_rounds params loops comparisons rs) → comparisons + comparisons_in rs ≤ 32
 few_comparisons params loops comparisons [] h = let l : comparisons ≤ 32 = at_most comparisons 32 h in omega arith
@@ -190,6 +205,6 @@ few_comparisons params loops comparisons (Loop iter low rel high ∷ rs) h =
     let c = both_true (is_plain (params + loops) low) _ b.1 in
     let d = both_true (is_plain (params + loops) high) (plain_rounds params (suc loops) comparisons rs) c.1 in
     few_comparisons params (suc loops) comparisons rs d.1
-few_comparisons params loops comparisons (Test conds ∷ rs) h =
-    let g : (comparisons + length conds) + comparisons_in rs ≤ 32 = few_comparisons params loops (comparisons + length conds) rs (both_true (plain_tests (params + loops) conds) (plain_rounds params loops (comparisons + length conds) rs) h).1 in
+few_comparisons params loops comparisons (Test cond ∷ rs) h =
+    let g : (comparisons + comparisons_of cond) + comparisons_in rs ≤ 32 = few_comparisons params loops (comparisons + comparisons_of cond) rs (both_true (plain_cond (params + loops) cond) (plain_rounds params loops (comparisons + comparisons_of cond) rs) h).1 in
     omega arith

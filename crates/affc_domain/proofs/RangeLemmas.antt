@@ -11,11 +11,12 @@ use Rattle.affc_ast.specs.declared.tree.Ix.{Ix}
 use Rattle.affc_ast.specs.declared.tree.Param.{Param}
 use Rattle.affc_ast.specs.declared.tree.Param.TheVariants.{Number, Array}
 use Rattle.affc_ast.specs.declared.tree.Rel.{Rel}
-use Rattle.affc_ast.specs.declared.tree.Rel.TheVariants.{Less, LessEqual, Greater, GreaterEqual, Equal}
-use Rattle.affc_ast.specs.Fits.{whole, whole_of, within_ranges, meets, holds, all_hold}
+use Rattle.affc_ast.specs.declared.tree.Rel.TheVariants.{Less, LessEqual, Greater, GreaterEqual, Equal, NotEqual}
+use Rattle.affc_ast.specs.Fits.{whole, whole_of, within_ranges, meets, holds, all_hold, is_true_at}
 use Rattle.affc_trace.specs.Target.{numbers_in}
 use Rattle.affc_trace.proofs.LastStores.{append_nil}
 use Rattle.affc_domain.specs.Affine.{form_of, is_affine}
+use Rattle.affc_ast.specs.Pieces.{comparisons_of}
 use Rattle.affc_domain.specs.Laws.{IteratorsKeepRanges}
 use Rattle.affc_domain.specs.Ranges.{number_ranges, Ranges, Within, Never, Wide, outermost, is_near, last_of, range_of, entered, ranges_of, AreWithin}
 use Rattle.affc_domain.specs.Rounds.{Round, Loop, Test, goes_on, turns}
@@ -80,6 +81,7 @@ last_under LessEqual x high most u h = let l : x ≤ℤ high = true_le x high u 
 last_under Greater x high most u h = absurd (true≢false (sym u))
 last_under GreaterEqual x high most u h = absurd (true≢false (sym u))
 last_under Equal x high most u h = absurd (true≢false (sym u))
+last_under NotEqual x high most u h = absurd (true≢false (sym u))
 
 pub in_range : (rs : List (ℤ × ℤ)) (names : List ℤ) (low : Ix) (rel : Rel) (high : Ix) (x : ℤ) → InBox rs names → IsTrue (is_affine low) → IsTrue (is_affine high)
     → whole low names ≤ℤ x → goes_on rel x (whole high names) ≡ true → ((range_of rs low rel high).0 ≤ℤ x) × (x ≤ℤ (range_of rs low rel high).1)
@@ -131,8 +133,8 @@ turns_within params loops comparisons (Loop iter low rel high ∷ rs) ranges nam
     let h = in_range ranges names low rel high x b (is_plain_affine (params + loops) low a3.0) (is_plain_affine (params + loops) high a4.0) (true_le (whole low names) x t1.0) t2.0 in
     entered_within r (ranges_of (ranges ++ r ∷ []) rs) x xs h.0 h.1
     (turns_within params (suc loops) comparisons rs (ranges ++ r ∷ []) (names ++ x ∷ []) xs a4.1 (box_push ranges names r x b h.0 h.1) t2.1)
-turns_within params loops comparisons (Test conds ∷ rs) ranges names xs a b t =
-    turns_within params loops (comparisons + length conds) rs ranges names xs (both_true _ _ a).1 b (both_true (all_hold conds names) _ t).1
+turns_within params loops comparisons (Test cond ∷ rs) ranges names xs a b t =
+    turns_within params loops (comparisons + comparisons_of cond) rs ranges names xs (both_true _ _ a).1 b (both_true (is_true_at cond names) _ t).1
 
 pub iterators_keep_ranges : IteratorsKeepRanges
 iterators_keep_ranges program p b rs plain within i at =

@@ -35,7 +35,11 @@ loop_starts first n numbers i ls e = let r = from_map (λ q. first ∷ q) number
 mutual
   pub starts : (x : Stmt) (first i : ℕ) (ls : List ℕ) → slice_get ((by_stmt numbered_step x).numbers first) i ≡ Some ls → StartIn first (by_stmt numbered_step x).loops ls
   starts (s.For' iter low rel high shape body) first i ls e = loop_starts first (all_loops (by_each numbered_step body)) (in_text_order (by_each numbered_step body) (suc first)) i ls e
-  starts (s.If' conds shape body) first i ls e = row_starts body first i ls e
+  starts (s.If' cond shape body shape' other) first i ls e =
+      elim (from_append (in_text_order (by_each numbered_step body) first) (in_text_order (by_each numbered_step other) (first + all_loops (by_each numbered_step body))) i ls e) [
+        | inl h ↦ wider first (all_loops (by_each numbered_step body)) _ _ ls refl (row_starts body first i ls h)
+        | inr r ↦ later first (all_loops (by_each numbered_step body)) _ _ ls refl (row_starts other (first + all_loops (by_each numbered_step body)) r.0 ls r.2)
+      ]
   starts (s.Assign op array subs value) first i ls e = subst (StartIn first 0) (sym (alone i ls e)) tt
   starts (s.Block' locals shape body) first i ls e = row_starts body first i ls e
 

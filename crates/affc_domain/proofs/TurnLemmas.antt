@@ -1,23 +1,24 @@
 -- A program's instances are those whose iterators turn under the loops and conditions round their statements.
 use Rattle.std.proofs.Common.{◌≡◌, ℕ, zero, suc, ◌+◌, ℤ, pos, negsuc, ◌+ℤ◌, ◌-ℤ◌, ◌≤ℤ◌, ◌<ℤ◌, Bool, true, false, true≢false, ◌&&◌, if◌then◌else◌, int_le, List, [], ◌∷◌, ◌++◌, length, map, flat_map, sum_by, Some, Ordering, refl, sym, ap, subst, ◌∙◌, ◌⊎◌, inl, inr, arith}
-use Rattle.std.specs.Prelude.{slice_get}
+use Rattle.std.specs.Prelude.{slice_get, not}
 use Rattle.std.specs.declared.cmp.Ordering.TheVariants as o
 use Rattle.std.specs.Ordering.{int_cmp, MatchOrdering}
 use Rattle.std.specs.Cmp.{int_ranks}
 use Rattle.std.proofs.lemmas.Int.{ints}
 use Rattle.std.proofs.lemmas.List.Sums.{sum_by-cons}
 use Rattle.std.proofs.lemmas.Option.{none-some, same_Some}
+use Rattle.affc_ast.specs.declared.tree.Cond.{Cond}
 use Rattle.affc_ast.specs.declared.tree.Instance.{Instance}
 use Rattle.affc_ast.specs.declared.tree.Ix.{Ix}
 use Rattle.affc_ast.specs.declared.tree.Program.{Program}
 use Rattle.affc_ast.specs.declared.tree.Rel.{Rel}
-use Rattle.affc_ast.specs.declared.tree.Rel.TheVariants.{Less, LessEqual, Greater, GreaterEqual, Equal}
+use Rattle.affc_ast.specs.declared.tree.Rel.TheVariants.{Less, LessEqual, Greater, GreaterEqual, Equal, NotEqual}
 use Rattle.affc_ast.specs.declared.tree.Stmt.{Stmt}
 use Rattle.affc_ast.specs.declared.tree.Stmt.TheVariants as s
 use Rattle.affc_ast.specs.declared.tree.Stmt.TheBlock.{Row_of-Stmt, more_of-Stmt, end_of-Stmt}
-use Rattle.affc_ast.specs.Fits.{whole, all_hold}
+use Rattle.affc_ast.specs.Fits.{whole, is_true_at}
 use Rattle.affc_ast.specs.Meaning.{turns_of, at_least_zero}
-use Rattle.affc_ast.specs.Trace.{count_from, walk_step, in_walk_order, trace}
+use Rattle.affc_ast.specs.Trace.{count_from, walk_step, in_walk_order, assigns_of, trace}
 use Rattle.affc_ast.specs.Recursion.{by_stmt, by_each}
 use Rattle.affc_ast.proofs.Steps.{row_of, unrolled, flat_unrolled, same_instance}
 use Rattle.affc_trace.specs.Law.{IsIn}
@@ -27,6 +28,8 @@ use Rattle.affc_trace.proofs.Runs.{slice_left, slice_right, length_append}
 use Rattle.affc_trace.proofs.Once.{in_append, in_flat_map}
 use Rattle.affc_trace.proofs.Members.{to_first, to_second, to_flat_map}
 use Rattle.affc_domain.specs.Laws.{InstancesTurn}
+use Rattle.affc_ast.specs.Denials.{denied}
+use Rattle.affc_ast.proofs.DenialLemmas.{denial}
 use Rattle.affc_domain.specs.Rounds.{Round, Loop, Test, rounds_step, rounds, goes_on, turns}
 use Rattle.affc_domain.proofs.Lists.{both_true, true_both, le_true, true_le, lt_true, true_lt, from_append, from_map, to_mapped, length_map}
 
@@ -80,6 +83,7 @@ turn_goes_on LessEqual low high x i =
 turn_goes_on Greater low high x i = absurd i
 turn_goes_on GreaterEqual low high x i = absurd i
 turn_goes_on Equal low high x i = absurd i
+turn_goes_on NotEqual low high x i = absurd i
 
 pub to_turn : (rel : Rel) (low high x : ℤ) → int_le low x ≡ true → goes_on rel x high ≡ true → IsIn x (count_from (turns_of rel low high) low)
 to_turn Less low high x l g =
@@ -95,6 +99,7 @@ to_turn LessEqual low high x l g =
 to_turn Greater low high x l g = absurd (true≢false (sym g))
 to_turn GreaterEqual low high x l g = absurd (true≢false (sym g))
 to_turn Equal low high x l g = absurd (true≢false (sym g))
+to_turn NotEqual low high x l g = absurd (true≢false (sym g))
 
 abbrev joined_rounds : {n : _} → Row_of-Stmt n → List (List Round)
 joined_rounds body = flat_map (λ a. a) (by_each rounds_step body)
@@ -103,11 +108,14 @@ module _ (p : List ℤ) where
   mutual
     pub rounds_count : (x : Stmt) → length (by_stmt rounds_step x) ≡ (by_stmt (walk_step p) x).assigns
     rounds_count (s.For' iter low rel high shape body) = length_map (λ rs. Loop iter low rel high ∷ rs) (joined_rounds body) ∙ row_rounds_count body
-    rounds_count (s.If' conds shape body) = length_map (λ rs. Test conds ∷ rs) (joined_rounds body) ∙ row_rounds_count body
+    rounds_count (s.If' cond shape body shape2 other) =
+        length_append (map (λ rs. Test cond ∷ rs) (joined_rounds body)) (map (λ rs. Test (denied cond) ∷ rs) (joined_rounds other))
+        ∙ ap (λ n. n + length (map (λ rs. Test (denied cond) ∷ rs) (joined_rounds other))) (length_map (λ rs. Test cond ∷ rs) (joined_rounds body) ∙ row_rounds_count body)
+        ∙ ap (λ n. assigns_of (by_each (walk_step p) body) + n) (length_map (λ rs. Test (denied cond) ∷ rs) (joined_rounds other) ∙ row_rounds_count other)
     rounds_count (s.Assign op array subs value) = refl
     rounds_count (s.Block' locals shape body) = row_rounds_count body
 
-    row_rounds_count : {n : _} (body : Row_of-Stmt n) → length (flat_map (λ a. a) (by_each rounds_step body)) ≡ sum_by (λ w. w.assigns) (by_each (walk_step p) body)
+    pub row_rounds_count : {n : _} (body : Row_of-Stmt n) → length (flat_map (λ a. a) (by_each rounds_step body)) ≡ sum_by (λ w. w.assigns) (by_each (walk_step p) body)
     row_rounds_count end_of-Stmt = refl
     row_rounds_count (more_of-Stmt x rest) =
         length_append (by_stmt rounds_step x) (joined_rounds rest)
@@ -119,13 +127,17 @@ module _ (p : List ℤ) where
   abbrev Runs : List (List Round) → (k : ℕ) → (outer : List ℤ) → Instance → Type 0
   Runs all k ts b = (m : ℕ) × (xs : List ℤ) × (rs : List Round) × (b.statement ≡ k + m) × (b.iterators ≡ ts ++ xs) × (slice_get all m ≡ Some rs) × (turns rs (p ++ ts) xs ≡ true)
 
-  in_if : (b : Bool) (a : Instance) (is : List Instance) → IsIn a (if b then is else []) → (b ≡ true) × IsIn a is
-  in_if true a is i = (refl, i)
-  in_if false a is i = absurd i
+  pub in_if : (b : Bool) (a : Instance) (is js : List Instance) → IsIn a (if b then is else js) → ((b ≡ true) × IsIn a is) ⊎ ((not b ≡ true) × IsIn a js)
+  in_if true a is js i = inl (refl, i)
+  in_if false a is js i = inr (refl, i)
 
-  to_if : (b : Bool) (a : Instance) (is : List Instance) → b ≡ true → IsIn a is → IsIn a (if b then is else [])
-  to_if true a is e i = i
-  to_if false a is e i = absurd (true≢false (sym e))
+  to_if : (b : Bool) (a : Instance) (is js : List Instance) → b ≡ true → IsIn a is → IsIn a (if b then is else js)
+  to_if true a is js e i = i
+  to_if false a is js e i = absurd (true≢false (sym e))
+
+  to_else : (b : Bool) (a : Instance) (is js : List Instance) → not b ≡ true → IsIn a js → IsIn a (if b then is else js)
+  to_else false a is js e i = i
+  to_else true a is js e i = absurd (true≢false (sym e))
 
   runs_first : (xs ys : List (List Round)) (k : ℕ) (ts : List ℤ) (b : Instance) → Runs xs k ts b → Runs (xs ++ ys) k ts b
   runs_first xs ys k ts b r = (r.0, r.1, r.2, r.3, r.4, slice_left xs ys r.0 r.2 r.5, r.6)
@@ -134,6 +146,14 @@ module _ (p : List ℤ) where
   runs_second xs ys k n ts b e r =
       let q : b.statement ≡ (k + n) + r.0 = r.3 in
       (length xs + r.0, r.1, r.2, omega arith, r.4, slice_right xs ys r.0 ∙ r.5, r.6)
+
+  -- behind a test that holds
+  runs_test : (cond : Cond) (all : List (List Round)) (k : ℕ) (ts : List ℤ) (b : Instance) → is_true_at cond (p ++ ts) ≡ true → Runs all k ts b → Runs (map (λ rs. Test cond ∷ rs) all) k ts b
+  runs_test cond all k ts b h r =
+      (r.0, r.1, Test cond ∷ r.2, r.3, r.4, to_mapped (λ rs. Test cond ∷ rs) all r.0 r.2 r.5, true_both (is_true_at cond (p ++ ts)) (turns r.2 (p ++ ts) r.1) h r.6)
+
+  other_count : (cond : Cond) {n : _} (body : Row_of-Stmt n) → length (map (λ rs. Test cond ∷ rs) (joined_rounds body)) ≡ assigns_of (by_each (walk_step p) body)
+  other_count cond body = length_map (λ rs. Test cond ∷ rs) (joined_rounds body) ∙ row_rounds_count body
 
   mutual
     runs : (x : Stmt) (k : ℕ) (ts : List ℤ) (b : Instance) → IsIn b ((by_stmt (walk_step p) x).instances k ts) → Runs (by_stmt rounds_step x) k ts b
@@ -151,17 +171,11 @@ module _ (p : List ℤ) where
               (true_both (goes_on rel h.0 (whole high (p ++ ts))) (turns r.2 ((p ++ ts) ++ h.0 ∷ []) r.1) g.1
               (ap (λ l. turns r.2 l r.1) (append_assoc p ts (h.0 ∷ [])) ∙ r.6)),
         )
-    runs (s.If' conds shape body) k ts b i =
-        let h = in_if (all_hold conds (p ++ ts)) b (in_walk_order (by_each (walk_step p) body) k ts) i in
-        let r = row_runs body k ts b h.1 in (
-          r.0,
-          r.1,
-          Test conds ∷ r.2,
-          r.3,
-          r.4,
-          to_mapped (λ rs. Test conds ∷ rs) (joined_rounds body) r.0 r.2 r.5,
-          true_both (all_hold conds (p ++ ts)) (turns r.2 (p ++ ts) r.1) h.0 r.6,
-        )
+    runs (s.If' cond shape body shape2 other) k ts b i = elim (in_if (is_true_at cond (p ++ ts)) b (in_walk_order (by_each (walk_step p) body) k ts) _ i) [
+      | inl h ↦ runs_first (map (λ rs. Test cond ∷ rs) (joined_rounds body)) _ k ts b (runs_test cond (joined_rounds body) k ts b h.0 (row_runs body k ts b h.1))
+      | inr h ↦ runs_second (map (λ rs. Test cond ∷ rs) (joined_rounds body)) _ k (assigns_of (by_each (walk_step p) body)) ts b (other_count cond body)
+          (runs_test (denied cond) (joined_rounds other) (k + assigns_of (by_each (walk_step p) body)) ts b (denial cond (p ++ ts) ∙ h.0) (row_runs other (k + assigns_of (by_each (walk_step p) body)) ts b h.1))
+    ]
     runs (s.Assign op array subs value) k ts b (inl e) = (0, [], [], ap (λ (c : Instance). c.statement) e ∙ omega arith, ap (λ (c : Instance). c.iterators) e ∙ sym (append_nil ts), refl, refl)
     runs (s.Assign op array subs value) k ts b (inr i) = absurd i
     runs (s.Block' locals shape body) k ts b i = row_runs body k ts b i
@@ -191,17 +205,33 @@ module _ (p : List ℤ) where
       (subst (λ l. IsIn (record { statement = k + m; iterators = l }) (f x)) (append_assoc ts (x ∷ []) xs)
       (each x xs (ap (λ l. turns rs l xs) (sym (append_assoc p ts (x ∷ []))) ∙ b.1)))
 
+  -- a test that is behind a first one
+  under_test : (cond : Cond) (rs : List Round) (all : List (List Round)) (m : ℕ) (ts xs : List ℤ) → slice_get (map (λ rs. Test cond ∷ rs) all) m ≡ Some rs → turns rs (p ++ ts) xs ≡ true
+      → (qs : List Round) × (slice_get all m ≡ Some qs) × (is_true_at cond (p ++ ts) ≡ true) × (turns qs (p ++ ts) xs ≡ true)
+  under_test cond rs all m ts xs e l =
+      let g = from_map (λ rs. Test cond ∷ rs) all m rs e in
+      let h = both_true (is_true_at cond (p ++ ts)) (turns g.0 (p ++ ts) xs) (subst (λ hs. turns hs (p ++ ts) xs ≡ true) g.2 l) in
+      (g.0, g.1, h.0, h.1)
+
   mutual
     are_run : (x : Stmt) (k m : ℕ) (ts xs : List ℤ) (rs : List Round) → slice_get (by_stmt rounds_step x) m ≡ Some rs → turns rs (p ++ ts) xs ≡ true
         → IsIn (record { statement = k + m; iterators = ts ++ xs }) ((by_stmt (walk_step p) x).instances k ts)
     are_run (s.For' iter low rel high shape body) k m ts xs rs e l =
         let g = from_map (λ rs. Loop iter low rel high ∷ rs) (joined_rounds body) m rs e in
         for_run iter low rel high body k m ts xs g.0 g.1 (λ y ys h. row_are_run body k m (ts ++ y ∷ []) ys g.0 g.1 h) (subst (λ hs. turns hs (p ++ ts) xs ≡ true) g.2 l)
-    are_run (s.If' conds shape body) k m ts xs rs e l =
-        let g = from_map (λ rs. Test conds ∷ rs) (joined_rounds body) m rs e in
-        let h = both_true (all_hold conds (p ++ ts)) (turns g.0 (p ++ ts) xs) (subst (λ hs. turns hs (p ++ ts) xs ≡ true) g.2 l) in
-        to_if (all_hold conds (p ++ ts)) (record { statement = k + m; iterators = ts ++ xs }) (in_walk_order (by_each (walk_step p) body) k ts) h.0
-        (row_are_run body k m ts xs g.0 g.1 h.1)
+    are_run (s.If' cond shape body shape2 other) k m ts xs rs e l = elim (from_append (map (λ rs. Test cond ∷ rs) (joined_rounds body)) (map (λ rs. Test (denied cond) ∷ rs) (joined_rounds other)) m rs e) [
+      | inl h ↦
+          let g = under_test cond rs (joined_rounds body) m ts xs h l in
+          to_if (is_true_at cond (p ++ ts)) (record { statement = k + m; iterators = ts ++ xs }) (in_walk_order (by_each (walk_step p) body) k ts) _ g.2 (row_are_run body k m ts xs g.0 g.1 g.3)
+      | inr h ↦
+          let g = under_test (denied cond) rs (joined_rounds other) h.0 ts xs h.2 l in
+          let count : length (map (λ rs. Test cond ∷ rs) (joined_rounds body)) ≡ assigns_of (by_each (walk_step p) body) = other_count cond body in
+          let q : m ≡ length (map (λ rs. Test cond ∷ rs) (joined_rounds body)) + h.0 = h.1 in
+          let number : (k + assigns_of (by_each (walk_step p) body)) + h.0 ≡ k + m = omega arith in
+          to_else (is_true_at cond (p ++ ts)) (record { statement = k + m; iterators = ts ++ xs }) _ _ (sym (denial cond (p ++ ts)) ∙ g.2)
+          (subst (λ n. IsIn (record { statement = n; iterators = ts ++ xs }) (in_walk_order (by_each (walk_step p) other) (k + assigns_of (by_each (walk_step p) body)) ts)) number
+          (row_are_run other (k + assigns_of (by_each (walk_step p) body)) h.0 ts xs g.0 g.1 g.3))
+    ]
     are_run (s.Assign op array subs value) k zero ts xs rs e l =
         inl (same_instance k ts (record { statement = k + 0; iterators = ts ++ xs }) (omega arith) (no_more xs (subst (λ hs. turns hs (p ++ ts) xs ≡ true) (sym (same_Some [] rs e)) l)))
     are_run (s.Assign op array subs value) k (suc m) ts xs rs e l = absurd (none-some rs e)
@@ -221,7 +251,7 @@ module _ (p : List ℤ) where
           (row_are_run rest (k + (by_stmt (walk_step p) x).assigns) h.0 ts xs rs h.2 l))
     ]
 
-  -- from the row of a program's statements to their list
+  -- from the row of the statements to their list
   list_runs : (body : List Stmt) (k : ℕ) (ts : List ℤ) (b : Instance) → IsIn b (in_walk_order (map (by_stmt (walk_step p)) body) k ts) → Runs (flat_map (by_stmt rounds_step) body) k ts b
   list_runs body k ts b i =
       subst (λ rss. Runs rss k ts b) (sym (flat_unrolled rounds_step body))
@@ -233,7 +263,6 @@ module _ (p : List ℤ) where
       subst (λ ws. IsIn (record { statement = k + m; iterators = ts ++ xs }) (in_walk_order ws k ts)) (sym (unrolled (walk_step p) body))
       (row_are_run (row_of body) k m ts xs rs (ap (λ rss. slice_get rss m) (sym (flat_unrolled rounds_step body)) ∙ e) l)
 
--- the iterators of an instance of the trace turn
 pub trace_runs : (program : Program) (p : List ℤ) (b : Instance) → IsIn b (trace program p)
     → (rs : List Round) × (slice_get (rounds program) b.statement ≡ Some rs) × (turns rs p b.iterators ≡ true)
 trace_runs program p b i =
@@ -241,7 +270,6 @@ trace_runs program p b i =
     let n : r.0 ≡ b.statement = (let q : b.statement ≡ 0 + r.0 = r.3 in omega arith) in
     (r.2, ap (slice_get (rounds program)) (sym n) ∙ r.5, ap (λ l. turns r.2 l b.iterators) (sym (append_nil p)) ∙ ap (turns r.2 (p ++ [])) r.4 ∙ r.6)
 
--- and where iterators turn there is an instance of the trace
 pub trace_has : (program : Program) (p : List ℤ) (k : ℕ) (xs : List ℤ) (rs : List Round) → slice_get (rounds program) k ≡ Some rs → turns rs p xs ≡ true
     → IsIn (record { statement = k; iterators = xs }) (trace program p)
 trace_has program p k xs rs e l =

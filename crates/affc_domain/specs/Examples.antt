@@ -3,6 +3,8 @@ use Rattle.std.specs.Prelude.{◌≡◌, ℕ, zero, suc, ◌+◌, ◌^◌, true,
 use Rattle.affc_rows.specs.Forms.{Affine}
 use Rattle.affc_ast.specs.declared.tree.ArrayId.{ArrayId}
 use Rattle.affc_ast.specs.declared.tree.Compare.{Compare}
+use Rattle.affc_ast.specs.declared.tree.Cond.{Cond}
+use Rattle.affc_ast.specs.declared.tree.Cond.TheVariants as cond
 use Rattle.affc_ast.specs.declared.tree.Decl.{Decl}
 use Rattle.affc_ast.specs.declared.tree.Instance.{Instance}
 use Rattle.affc_ast.specs.declared.tree.Ix.{Ix}
@@ -13,7 +15,7 @@ use Rattle.affc_ast.specs.declared.tree.Param.{Param}
 use Rattle.affc_ast.specs.declared.tree.Param.TheVariants.{Number, Array}
 use Rattle.affc_ast.specs.declared.tree.Program.{Program}
 use Rattle.affc_ast.specs.declared.tree.Rel.{Rel}
-use Rattle.affc_ast.specs.declared.tree.Rel.TheVariants.{Less, LessEqual, Greater, GreaterEqual, Equal}
+use Rattle.affc_ast.specs.declared.tree.Rel.TheVariants.{Less, LessEqual, Greater, GreaterEqual, Equal, NotEqual}
 use Rattle.affc_ast.specs.declared.tree.Role.TheVariants.{Temp}
 use Rattle.affc_ast.specs.declared.tree.Stmt.{Stmt}
 use Rattle.affc_ast.specs.declared.tree.Stmt.TheVariants.{For, If, Assign, Block}
@@ -47,6 +49,9 @@ j = name 2
 
 abbrev test : Ix → Rel → Ix → Compare
 test left rel right = record { rel = rel; left = left; right = right }
+
+abbrev when : Ix → Rel → Ix → Cond
+when left rel right = cond.Compare rel left right
 
 abbrev array : ℕ → ArrayId
 array x = record { 0 = x }
@@ -169,7 +174,7 @@ NamesInSight =
 -- for i from 0 to n - 1 { for j from 0 to i { S0 } if (i == 2) { S1 } } { S2 }
 abbrev triangle : Program
 triangle = with_body (
-    below (lit 0) n (up_to (lit 0) i (at_0 j ∷ []) ∷ If (test i Equal (lit 2) ∷ []) (at_0 i ∷ []) ∷ [])
+    below (lit 0) n (up_to (lit 0) i (at_0 j ∷ []) ∷ If (when i Equal (lit 2)) (at_0 i ∷ []) [] ∷ [])
     ∷ Block [] (at_0 n ∷ [])
     ∷ [])
 
@@ -180,7 +185,7 @@ abbrev inner : Round
 inner = Loop [] (lit 0) LessEqual i
 
 abbrev at_two : Round
-at_two = Test (test i Equal (lit 2) ∷ [])
+at_two = Test (when i Equal (lit 2))
 
 abbrev pub RoundsOfTheTriangle : Type 0
 RoundsOfTheTriangle = rounds triangle ≡ (outer ∷ inner ∷ []) ∷ (outer ∷ at_two ∷ []) ∷ [] ∷ []
@@ -220,14 +225,14 @@ abbrev pub LoopsRound : Type 0
 LoopsRound = map loops_in (rounds triangle) ≡ 2 ∷ 1 ∷ 0 ∷ []
 
 abbrev pub ComparisonsRound : Type 0
-ComparisonsRound = comparisons_in (Test (test n Equal n ∷ test n Less (lit 2) ∷ []) ∷ Loop [] (lit 0) Less n ∷ Test (test i Less n ∷ []) ∷ []) ≡ 3
+ComparisonsRound = comparisons_in (Test (cond.All (when n Equal n ∷ when n Less (lit 2) ∷ [])) ∷ Loop [] (lit 0) Less n ∷ Test (when i Less n) ∷ []) ≡ 3
 
 -- ---- The order of the text
 
 -- for i from 0 to 1 { for j from 0 to 1 { S0 } if (..) { for k from 0 to 1 { S1 } } } { for l .. { S2 } } S3 for m .. { S4 }
 abbrev share_one : Program
 share_one = with_body (
-    below (lit 0) (lit 2) (below (lit 0) (lit 2) (at_0 j ∷ []) ∷ If (test n Equal n ∷ []) (below (lit 0) (lit 2) (at_0 j ∷ []) ∷ []) ∷ [])
+    below (lit 0) (lit 2) (below (lit 0) (lit 2) (at_0 j ∷ []) ∷ If (when n Equal n) (below (lit 0) (lit 2) (at_0 j ∷ []) ∷ []) [] ∷ [])
     ∷ Block [] (below (lit 0) (lit 1) (at_0 i ∷ []) ∷ [])
     ∷ at_0 n
     ∷ below (lit 0) (lit 1) (at_0 i ∷ [])
@@ -426,7 +431,7 @@ PlainLoops =
 
 -- `if` with so many comparisons
 abbrev tested : ℕ → List Stmt → Stmt
-tested comparisons body = If (replicate comparisons (test n Equal n)) body
+tested comparisons body = If (cond.All (replicate comparisons (when n Equal n))) body []
 
 -- round an assignment, and not in all
 abbrev pub ThirtyTwoComparisons : Type 0
@@ -438,9 +443,9 @@ ThirtyTwoComparisons =
 
 abbrev pub PlainConditions : Type 0
 PlainConditions =
-    (plain_body 1 (If (test i Equal n ∷ []) (at_0 n ∷ []) ∷ []) ≡ false)
-    × (plain_body 1 (If (test n Equal n ∷ []) (at_0 i ∷ []) ∷ []) ≡ false)
-    × (plain_body 1 (below n n (If (test i Equal n ∷ []) (at_0 i ∷ []) ∷ []) ∷ []) ≡ true)
+    (plain_body 1 (If (when i Equal n) (at_0 n ∷ []) [] ∷ []) ≡ false)
+    × (plain_body 1 (If (when n Equal n) (at_0 i ∷ []) [] ∷ []) ≡ false)
+    × (plain_body 1 (below n n (If (when i Equal n) (at_0 i ∷ []) [] ∷ []) ∷ []) ≡ true)
 
 -- blocks have no locals
 abbrev pub NoLocals : Type 0
@@ -491,3 +496,10 @@ FullLoops =
     × IsNoPlain (with_body (tested 1 (at_0 n ∷ tested 1 [] ∷ []) ∷ []))
     × IsNoPlain (with_body (Block [] (tested 1 [] ∷ []) ∷ []))
     × IsNoPlain (with_body (below n n (Block [] [] ∷ []) ∷ []))
+
+-- without `!=`, also in the context, and without `else`
+abbrev pub OnlyJoinedTests : Type 0
+OnlyJoinedTests =
+    IsNoPlain (with_body (If (when n NotEqual n) (at_0 n ∷ []) [] ∷ []))
+    × IsNoPlain (with_body (If (when n Equal n) (at_0 n ∷ []) (at_0 n ∷ []) ∷ []))
+    × IsNoPlain (record (scalars 1) { context = test n NotEqual n ∷ [] })

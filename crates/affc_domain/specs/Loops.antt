@@ -18,7 +18,10 @@ in_text_order (n ∷ ns) first = n.numbers first ++ in_text_order ns (first + n.
 
 abbrev pub numbered_step : Stmt-F Numbered → Numbered
 numbered_step (For iter low rel high body) = record { loops = suc (all_loops body); numbers = λ first. map (λ ls. first ∷ ls) (in_text_order body (suc first)) }
-numbered_step (If conds body) = record { loops = all_loops body; numbers = in_text_order body }
+numbered_step (If cond body other) = record {
+  loops = all_loops body + all_loops other;
+  numbers = λ first. in_text_order body first ++ in_text_order other (first + all_loops body);
+}
 numbered_step (Assign op array subs value) = record { loops = 0; numbers = λ first. [] ∷ [] }
 numbered_step (Block locals body) = record { loops = all_loops body; numbers = in_text_order body }
 

@@ -1,7 +1,10 @@
 -- Plain programs: what the limits of a text without the prelude give of its tree. They are the programs that a compiler
 -- takes; docs/LANGUAGE.md lists the limits.
-use Rattle.std.specs.Prelude.{ℕ, suc, ◌+◌, ◌^◌, ◌≤◌, length, ℤ, Bool, true, false, ◌&&◌, ◌||◌, IsTrue, int_le, nat_le, nat_lt, nat_abs, List, [], ◌∷◌, map}
+use Rattle.std.specs.Prelude.{ℕ, suc, ◌+◌, ◌^◌, ◌≤◌, length, ℤ, pos, Bool, true, false, ◌&&◌, ◌||◌, IsTrue, int_le, nat_le, nat_lt, nat_abs, List, [], ◌∷◌, map}
 use Rattle.affc_ast.specs.declared.tree.Compare.{Compare}
+use Rattle.affc_ast.specs.declared.tree.Cond.{Cond}
+use Rattle.affc_ast.specs.declared.tree.Cond.TheOpen as cond
+use Rattle.affc_ast.specs.declared.tree.Cond.TheOpen.{Cond-F}
 use Rattle.affc_ast.specs.declared.tree.Decl.{Decl}
 use Rattle.affc_ast.specs.declared.tree.Ix.{Ix}
 use Rattle.affc_ast.specs.declared.tree.Program.{Program}
@@ -12,10 +15,13 @@ use Rattle.affc_ast.specs.declared.tree.Stmt.TheOpen.{Stmt-F, For, If, Assign, B
 use Rattle.affc_ast.specs.declared.tree.Val.{Val}
 use Rattle.affc_ast.specs.declared.tree.Val.TheOpen.{Val-F, Load, Const, Cast, Not, Bin, Shift}
 use Rattle.affc_ast.specs.Meaning.{arrays_of}
-use Rattle.affc_ast.specs.Recursion.{by_val, by_stmt}
+use Rattle.affc_ast.specs.Fits.{all_true}
+use Rattle.affc_ast.specs.Recursion.{by_val, by_cond, by_stmt}
 use Rattle.affc_ast.specs.Trace.{Assignment, assignments}
 use Rattle.affc_domain.specs.Accesses.{accesses_of}
 use Rattle.affc_domain.specs.Affine.{linear, sees}
+use Rattle.affc_ast.specs.Joined.{is_ordered, has_joined_tests}
+use Rattle.affc_ast.specs.Pieces.{comparisons_of}
 use Rattle.affc_domain.specs.Ranges.{number_ranges}
 
 -- ---- Expressions over so many names in sight
@@ -28,9 +34,20 @@ abbrev pub all_plain : (names : ℕ) → List Ix → Bool
 all_plain names [] = true
 all_plain names (e ∷ es) = is_plain names e && all_plain names es
 
+-- comparisons of a context, which have no "!="
 abbrev pub plain_tests : (names : ℕ) → List Compare → Bool
 plain_tests names [] = true
-plain_tests names (c ∷ cs) = is_plain names c.left && (is_plain names c.right && plain_tests names cs)
+plain_tests names (c ∷ cs) = is_plain names c.left && (is_plain names c.right && (is_ordered c.rel && plain_tests names cs))
+
+abbrev pub plain_cond_step : (names : ℕ) → Cond-F Bool → Bool
+plain_cond_step names (cond.Compare rel left right) = is_plain names left && is_plain names right
+plain_cond_step names (cond.All bs) = all_true bs
+plain_cond_step names (cond.Any bs) = all_true bs
+plain_cond_step names (cond.Divides value by so) = is_plain names value && (int_le (pos 1) by && int_le by (pos 65536))
+
+-- a condition all of whose sides and values are plain, with divisors up to 2^16
+abbrev pub plain_cond : (names : ℕ) → Cond → Bool
+plain_cond names c = by_cond (plain_cond_step names) c
 
 abbrev pub plain_value_step : Val-F (ℕ → Bool) → (names : ℕ) → Bool
 plain_value_step (Load array subs) names = all_plain names subs
@@ -80,7 +97,8 @@ all_of (f ∷ fs) loops comparisons = f loops comparisons && all_of fs loops com
 abbrev pub plain_step : (params : ℕ) → Stmt-F (ℕ → ℕ → Bool) → (loops comparisons : ℕ) → Bool
 plain_step params (For iter low rel high body) loops comparisons =
     nat_lt loops 6 && (is_upward rel && (is_plain (params + loops) low && (is_plain (params + loops) high && all_of body (suc loops) comparisons)))
-plain_step params (If conds body) loops comparisons = plain_tests (params + loops) conds && all_of body loops (comparisons + length conds)
+plain_step params (If cond body other) loops comparisons =
+    plain_cond (params + loops) cond && (all_of body loops (comparisons + comparisons_of cond) && all_of other loops (comparisons + comparisons_of cond))
 plain_step params (Assign op array subs value) loops comparisons =
     nat_le comparisons 32 && plain_assignment (params + loops) (record { op = op; array = array; subs = subs; value = value })
 plain_step params (Block [] body) loops comparisons = all_of body loops comparisons
@@ -100,14 +118,15 @@ all_full (s ∷ ss) = s.1 && all_full ss
 
 abbrev pub full_step : Stmt-F (Bool × Bool) → Bool × Bool
 full_step (For iter low rel high body) = (some_hold body, some_hold body && all_full body)
-full_step (If conds body) = (some_hold body, some_hold body && all_full body)
+full_step (If cond body other) = (some_hold body || some_hold other, (some_hold body || some_hold other) && (all_full body && all_full other))
 full_step (Assign op array subs value) = (true, true)
 full_step (Block locals body) = (some_hold body, all_full body)
 
 -- ---- Programs
 
 -- A program as a text without the prelude gives it: at most four number parameters, 16 comparisons of the context, four
--- dimensions, 64 assignments, and what plain_body asks; each loop and each `if` holds an assignment.
+-- dimensions, 64 assignments, and what plain_body asks; each loop and each `if` holds an assignment. Its `if`s have no
+-- `else`, and their conditions are comparisons joined by `&&`, without `!=`: other programs are read and run, and not compiled.
 pub record IsPlain (program : Program) : Type 0 where
   pub few_numbers : length (number_ranges program.params) ≤ 4
   pub ranges : IsTrue (plain_ranges (number_ranges program.params))
@@ -117,4 +136,5 @@ pub record IsPlain (program : Program) : Type 0 where
   pub temps : IsTrue (plain_decls (length (number_ranges program.params)) program.temps)
   pub body : IsTrue (plain_body (length (number_ranges program.params)) program.body)
   pub full : IsTrue (all_full (map (by_stmt full_step) program.body))
+  pub tests : IsTrue (has_joined_tests program)
   pub few_assignments : length (assignments program) ≤ 64

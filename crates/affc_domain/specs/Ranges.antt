@@ -51,7 +51,7 @@ entered r inside = if int_lt r.1 r.0 then Never else (if not (is_near r.0 && is_
 abbrev pub ranges_of : (outer : List (ℤ × ℤ)) → List Round → Ranges
 ranges_of outer [] = Within []
 ranges_of outer (Loop iter low rel high ∷ rs) = let r = range_of outer low rel high in entered r (ranges_of (outer ++ r ∷ []) rs)
-ranges_of outer (Test conds ∷ rs) = ranges_of outer rs
+ranges_of outer (Test cond ∷ rs) = ranges_of outer rs
 
 -- what the rule says of an instance's iterators
 abbrev pub AreWithin : Ranges → (iterators : List ℤ) → Type 0

@@ -1,6 +1,6 @@
 //! What the definitions give at small programs, as laws: `specs/Examples.antt` says each, with values that were
 //! found by hand from the rules.
-ghost use Rattle.affc_domain.specs.Examples.{AccessesInOrder, ArraysInOrder, UnitsOfColumns, FormsOfSums, WhichAreAffine, SmallForms, SmallInEachPart, NamesInSight, RoundsOfTheTriangle, LoopsGoOn, TriangleTurns, NothingTurnsInside, LoopsRound, ComparisonsRound, NumbersOfLoops, SharedLoops, BeforeByIterators, OrderOfTheSharedLoop, RangesOfNumbers, RangeOfALoop, RangesOfTheTriangle, NearEnds, RangesThatPass, OneTurnIsEntered, WithinRanges, FirstWide, PlainExpressions, PlainTests, PlainValues, PlainRanges, PlainDeclarations, UpwardLoops, SixteenAccesses, PlainAssignments, SixLoops, PlainLoops, ThirtyTwoComparisons, PlainConditions, NoLocals, TriangleIsPlain, LimitsOfPrograms, PartsOfPrograms, FullLoops};
+ghost use Rattle.affc_domain.specs.Examples.{AccessesInOrder, ArraysInOrder, UnitsOfColumns, FormsOfSums, WhichAreAffine, SmallForms, SmallInEachPart, NamesInSight, RoundsOfTheTriangle, LoopsGoOn, TriangleTurns, NothingTurnsInside, LoopsRound, ComparisonsRound, NumbersOfLoops, SharedLoops, BeforeByIterators, OrderOfTheSharedLoop, RangesOfNumbers, RangeOfALoop, RangesOfTheTriangle, NearEnds, RangesThatPass, OneTurnIsEntered, WithinRanges, FirstWide, PlainExpressions, PlainTests, PlainValues, PlainRanges, PlainDeclarations, UpwardLoops, SixteenAccesses, PlainAssignments, SixLoops, PlainLoops, ThirtyTwoComparisons, PlainConditions, NoLocals, TriangleIsPlain, LimitsOfPrograms, PartsOfPrograms, FullLoops, OnlyJoinedTests};
 
 /// What an assignment reads and writes, and the arrays.
 pub fn accesses()
@@ -75,4 +75,5 @@ pub fn plain_programs()
     ensures limits_of_programs { LimitsOfPrograms }
     ensures parts_of_programs { PartsOfPrograms }
     ensures full_loops { FullLoops }
+    ensures only_joined_tests { OnlyJoinedTests }
 {}

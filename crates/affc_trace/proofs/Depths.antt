@@ -7,7 +7,7 @@ use Rattle.affc_ast.specs.declared.tree.Stmt.{Stmt}
 use Rattle.affc_ast.specs.declared.tree.Stmt.TheVariants as s
 use Rattle.affc_ast.specs.declared.tree.Stmt.TheBlock.{Row_of-Stmt, more_of-Stmt, end_of-Stmt}
 use Rattle.affc_ast.specs.declared.tree.Program.{Program}
-use Rattle.affc_ast.specs.Fits.{all_hold}
+use Rattle.affc_ast.specs.Fits.{is_true_at}
 use Rattle.affc_ast.specs.Trace.{walk_step, in_walk_order, trace}
 use Rattle.affc_ast.specs.Recursion.{by_stmt, by_each}
 use Rattle.affc_trace.specs.Law.{IsIn}
@@ -27,7 +27,10 @@ module _ (p : List ℤ) where
   mutual
     assigns_are : (x : Stmt) (depth : ℕ) → length (by_stmt loops_step x depth) ≡ (by_stmt (walk_step p) x).assigns
     assigns_are (s.For' iter low rel high shape body) depth = row_assigns_are body (suc depth)
-    assigns_are (s.If' conds shape body) depth = row_assigns_are body depth
+    assigns_are (s.If' cond shape body shape' other) depth =
+        length_append (each_round (by_each loops_step body) depth) (each_round (by_each loops_step other) depth)
+        ∙ ap (λ u. u + length (each_round (by_each loops_step other) depth)) (row_assigns_are body depth)
+        ∙ ap (λ u. sum_by (λ w. w.assigns) (by_each (walk_step p) body) + u) (row_assigns_are other depth)
     assigns_are (s.Assign op array subs value) depth = refl
     assigns_are (s.Block' locals shape body) depth = row_assigns_are body depth
 
@@ -53,7 +56,10 @@ module _ (p : List ℤ) where
     deep (s.For' iter low rel high shape body) k ts b i =
         let r = in_flat_map (λ y. in_walk_order (by_each (walk_step p) body) k (ts ++ y ∷ [])) _ b i in
         subst (λ depth. Deep (each_round (by_each loops_step body) depth) k b) (length_push ts r.0) (row_deep body k (ts ++ r.0 ∷ []) b r.2)
-    deep (s.If' conds shape body) k ts b i = row_deep body k ts b (if_in p (all_hold conds (p ++ ts)) b _ i)
+    deep (s.If' cond shape body shape' other) k ts b i = elim (if_in p (is_true_at cond (p ++ ts)) b _ _ i) [
+      | inl j ↦ first_of (each_round (by_each loops_step body) (length ts)) _ k b (row_deep body k ts b j.1)
+      | inr j ↦ second_of (each_round (by_each loops_step body) (length ts)) _ k (sum_by (λ w. w.assigns) (by_each (walk_step p) body)) b (row_assigns_are body (length ts)) (row_deep other (k + sum_by (λ w. w.assigns) (by_each (walk_step p) body)) ts b j.1)
+    ]
     deep (s.Assign op array subs value) k ts b (inl e) = (0, ap (λ u. u.statement) e ∙ omega arith, ap (λ u. Some (length u.iterators)) (sym e))
     deep (s.Assign op array subs value) k ts b (inr i) = absurd i
     deep (s.Block' locals shape body) k ts b i = row_deep body k ts b i

@@ -5,7 +5,9 @@ use Rattle.std.specs.FinMap.Entries.{find-put, is_sorted, is_sorted-put}
 use Rattle.affc_ast.specs.declared.tree.Instance.{Instance}
 use Rattle.affc_ast.specs.declared.tree.Op.{Op}
 use Rattle.affc_ast.specs.declared.tree.ArrayId.{ArrayId}
-use Rattle.affc_ast.specs.declared.tree.Compare.{Compare}
+use Rattle.affc_ast.specs.declared.tree.Cond.{Cond}
+use Rattle.affc_ast.specs.declared.tree.Cond.TheVariants as d
+use Rattle.affc_ast.specs.declared.tree.Cond.TheBlock.{Row_of-Cond, more_of-Cond, end_of-Cond}
 use Rattle.affc_ast.specs.declared.tree.Decl.{Decl}
 use Rattle.affc_ast.specs.declared.tree.Local.{Local}
 use Rattle.affc_ast.specs.declared.tree.Ix.{Ix}
@@ -16,17 +18,19 @@ use Rattle.affc_ast.specs.declared.tree.Stmt.TheVariants as s
 use Rattle.affc_ast.specs.declared.tree.Stmt.TheBlock.{Row_of-Stmt, more_of-Stmt, end_of-Stmt}
 use Rattle.affc_ast.specs.Store.{Element, Store, at, element_cmp}
 use Rattle.affc_ast.specs.Cause.{Cause, Extent, Overflow, OutOfBounds, Unwritten, ◌>>=◌}
-use Rattle.affc_ast.specs.Index.{in_int64, conditions, index_value, index_values, nodes_of_ix, compares}
+use Rattle.affc_ast.specs.Conditions.{all_read, some_read, reading_step, condition}
+use Rattle.affc_ast.specs.Index.{in_int64, index_value, index_values, nodes_of_ix}
 use Rattle.affc_ast.specs.Values.{Scope, load, touch, value_of}
-use Rattle.affc_ast.specs.Meaning.{State, Outcome, Ended, Stuck, Position, then_do, reading, begun, write, past, in_order, with_iterator, with_local, inside, turns_of, turns, with_locals, assigned, stmt_step, denotation_of, extents_of, all_extents, arrays_of, meaning}
+use Rattle.affc_ast.specs.Meaning.{State, Outcome, Ended, Stuck, Position, then_do, reading, begun, write, past, in_order, with_iterator, with_local, inside, past_all, turns_of, turns, with_locals, assigned, stmt_step, denotation_of, extents_of, all_extents, arrays_of, meaning}
 use Rattle.affc_ast.specs.Fits.{whole}
 use Rattle.affc_ast.specs.Trace.{count_from, loads_of_value, element}
-use Rattle.affc_ast.specs.Recursion.{by_stmt, by_each}
+use Rattle.affc_ast.specs.Recursion.{by_entries, by_stmt, by_each}
 use Rattle.affc_trace.specs.Law.{Effect, or_else, and_then, last_at, held, all_held, both_of, stores_of}
 use Rattle.affc_trace.specs.Dataflow.{same_element}
 use Rattle.affc_trace.specs.Effects.{effect_by, with_all, each_of, effects_step, effects}
 use Rattle.affc_trace.proofs.LastStores.{append_nil, get, IsSome}
-use Rattle.affc_trace.proofs.EndedReads.{append_assoc, ok_if, is_whole, are_whole, conditions_hold, assigns}
+use Rattle.affc_ast.proofs.ConditionReadings.{condition_is_true}
+use Rattle.affc_trace.proofs.EndedReads.{append_assoc, ok_if, is_whole, are_whole, assigns}
 use Rattle.affc_trace.proofs.Runs.{stores_append, stores_one, all_held_same, last_at_push, one_entry, element_cmp_total}
 use Rattle.affc_trace.proofs.Unwritten.{IsOther, Fine, fine_bind, fine_if, bind_err, not_err, not_fine, both_right, load_none, none_append, append_none, index_fine, indices_fine, value_unwritten}
 
@@ -60,16 +64,27 @@ assigned_unwritten (Some op) array subs e node scope store here i a h =
       ]
     ]
 
-conditions_fine : (cs : List Compare) (names : List ℤ) (node : ℕ) → Fine (conditions cs node names)
-conditions_fine [] names node = tt
-conditions_fine (d ∷ cs) names node =
-    fine_bind (index_value d.left (node + 1) names) _ (index_fine d.left names _) (λ x.
-    fine_bind (index_value d.right (node + 1 + nodes_of_ix d.left) names) _ (index_fine d.right names _) (λ y.
-    fine_either (compares d.rel x y) _ (conditions_fine cs names _)))
-  where
-    fine_either : (t : Bool) (r : Result Bool Cause) → Fine r → Fine (if t then r else Ok false)
-    fine_either true r f = f
-    fine_either false r f = tt
+fine_either : (t : Bool) (r s : Result Bool Cause) → Fine r → Fine s → Fine (if t then r else s)
+fine_either true r s f g = f
+fine_either false r s f g = g
+
+module _ (names : List ℤ) where
+  mutual
+    condition_fine : (x : Cond) (node : ℕ) → Fine (condition x node names)
+    condition_fine (d.Compare rel left right) node =
+        fine_bind (index_value left (node + 1) names) _ (index_fine left names _) (λ x.
+        fine_bind (index_value right (node + 1 + nodes_of_ix left) names) _ (index_fine right names _) (λ y. tt))
+    condition_fine (d.All' shape entries) node = all_entries_fine entries (node + 1)
+    condition_fine (d.Any' shape entries) node = some_entry_fine entries (node + 1)
+    condition_fine (d.Divides value by so) node = fine_bind (index_value value (node + 1) names) _ (index_fine value names _) (λ x. tt)
+
+    all_entries_fine : {n : _} (entries : Row_of-Cond n) (node : ℕ) → Fine (all_read (by_entries reading_step entries) node names)
+    all_entries_fine end_of-Cond node = tt
+    all_entries_fine (more_of-Cond x rest) node = fine_bind (condition x node names) _ (condition_fine x node) (λ b. fine_either b _ (Ok false) (all_entries_fine rest _) tt)
+
+    some_entry_fine : {n : _} (entries : Row_of-Cond n) (node : ℕ) → Fine (some_read (by_entries reading_step entries) node names)
+    some_entry_fine end_of-Cond node = tt
+    some_entry_fine (more_of-Cond x rest) node = fine_bind (condition x node names) _ (condition_fine x node) (λ b. fine_either b (Ok true) _ tt (some_entry_fine rest _))
 
 reading_bind : {A B : Type 0} (r : Result A Cause) (f : A → Result B Cause) (t : State) (next : B → Outcome) → reading (r >>= f) t next ≡ reading r t (λ x. reading (f x) t next)
 reading_bind (Ok x) f t next = refl
@@ -201,9 +216,9 @@ module _ (start : Element → Option ℕ) where
   ran_assign op array subs e node scope here t g (Err (Overflow x)) k = tt
   ran_assign op array subs e node scope here t g (Err (OutOfBounds i x)) k = tt
 
-  ran_if : (b : Bool) (t : State) (is : List (Effect Element ℕ)) (o : Outcome) → Agrees t → Ran t is o → Ran t (if b then is else []) (if b then o else Ended t)
-  ran_if true t is o a r = r
-  ran_if false t is o a r = ran_nothing t a
+  ran_if : (b : Bool) (t : State) (is js : List (Effect Element ℕ)) (o u : Outcome) → Ran t is o → Ran t js u → Ran t (if b then is else js) (if b then o else u)
+  ran_if true t is js o u r s = r
+  ran_if false t is js o u r s = s
 
   mutual
     pub stmt_ran : (x : Stmt) (place : Position) (scope : Scope) (t : State) → Agrees t → Ran t (by_stmt effects_step x scope.names) ((denotation_of x).run place scope t)
@@ -215,11 +230,12 @@ module _ (start : Element → Option ℕ) where
         (ap (λ z. flat_map f (count_from (turns_of rel first z) first)) (sym (is_whole high scope.names _ last k))
         ∙ ap (λ y. flat_map f (count_from (turns_of rel y (whole high scope.names)) y)) (sym (is_whole low scope.names _ first e)))
         (ran_turns (turns_of rel first last) place.node first _ f t (λ y u g. body_ran body (inside place _) (with_iterator scope y) u g) a)))
-    stmt_ran (s.If' conds shape body) place scope t a =
-        ran_reading t t _ _ (conditions conds (place.node + 1) scope.names) (conditions_fine conds scope.names _) (λ b e.
-        ran_at t (if b then each_of (by_each effects_step body) scope.names else []) _ _
-        (ap (λ c. if c then each_of (by_each effects_step body) scope.names else []) (sym (conditions_hold conds scope.names _ b e)))
-        (ran_if b t (each_of (by_each effects_step body) scope.names) _ a (body_ran body (inside place _) scope t a)))
+    stmt_ran (s.If' cond shape body shape' other) place scope t a =
+        let is = each_of (by_each effects_step body) scope.names in
+        let js = each_of (by_each effects_step other) scope.names in
+        ran_reading t t _ _ (condition cond (place.node + 1) scope.names) (condition_fine scope.names cond _) (λ b e.
+        ran_at t (if b then is else js) _ _ (ap (λ c. if c then is else js) (sym (condition_is_true cond scope.names _ b e)))
+        (ran_if b t is js _ _ (body_ran body (inside place _) scope t a) (body_ran other (past_all (by_each stmt_step body) (inside place _)) scope t a)))
     stmt_ran (s.Assign op array subs value) place scope t a =
         ran_assign op array subs value place.node scope _ t a _ refl
     stmt_ran (s.Block' locals shape body) place scope t a =

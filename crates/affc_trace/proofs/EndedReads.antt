@@ -1,10 +1,9 @@
 -- What is read in a run that ends is what the trace's definitions say.
-use Rattle.std.proofs.Common.{◌≡◌, ℕ, ◌+◌, ℤ, ◌+ℤ◌, ◌-ℤ◌, ◌*ℤ◌, neg_ℤ, Bool, true, false, if◌then◌else◌, ◌&&◌, List, [], ◌∷◌, ◌++◌, Option, Some, None, Result, Ok, Err, map, refl, sym, ap, subst, ◌∙◌}
+use Rattle.std.proofs.Common.{◌≡◌, ℕ, ◌+◌, ℤ, ◌+ℤ◌, ◌-ℤ◌, ◌*ℤ◌, neg_ℤ, Bool, true, false, if◌then◌else◌, List, [], ◌∷◌, ◌++◌, Option, Some, None, Result, Ok, Err, map, refl, sym, ap, subst, ◌∙◌}
 use Rattle.std.specs.Int.{int_max, int_min}
 use Rattle.affc_ast.specs.declared.tree.Instance.{Instance}
 use Rattle.affc_ast.specs.declared.tree.Op.{Op}
 use Rattle.affc_ast.specs.declared.tree.ArrayId.{ArrayId}
-use Rattle.affc_ast.specs.declared.tree.Compare.{Compare}
 use Rattle.affc_ast.specs.declared.tree.Ix.{Ix}
 use Rattle.affc_ast.specs.declared.tree.Ix.TheVariants as c
 use Rattle.affc_ast.specs.declared.tree.Ix.TheBlock.{more_of-Ix, end_of-Ix}
@@ -13,10 +12,10 @@ use Rattle.affc_ast.specs.declared.tree.Val.TheVariants as v
 use Rattle.affc_ast.specs.declared.tree.Val.TheBlock.{more_of-Val, end_of-Val}
 use Rattle.affc_ast.specs.Store.{Element, Store, at}
 use Rattle.affc_ast.specs.Cause.{Cause, ◌>>=◌}
-use Rattle.affc_ast.specs.Index.{in_int64, floor_of, ceiling_of, remainder_of, divided, on_one, on_both, index_of, index_value, index_values, compares, conditions, nodes_of_ix}
+use Rattle.affc_ast.specs.Index.{in_int64, floor_of, ceiling_of, remainder_of, divided, on_one, on_both, index_of, index_value, index_values, nodes_of_ix}
 use Rattle.affc_ast.specs.Values.{Scope, Sight, deeper, touch, held as held_there, load, value_of, operate, complement, shifted, converted}
 use Rattle.affc_ast.specs.Meaning.{assigned}
-use Rattle.affc_ast.specs.Fits.{whole, all_hold}
+use Rattle.affc_ast.specs.Fits.{whole}
 use Rattle.affc_ast.specs.Trace.{Assignment, element, loads_of_value}
 use Rattle.affc_trace.specs.Law.{both_of, all_held}
 use Rattle.affc_trace.specs.Effects.{taking, effect_by, then_taking, taken}
@@ -94,19 +93,6 @@ are_whole (i ∷ es) names node xs e =
     let p = bind_ok (index_value i node names) _ _ e in
     let q = bind_ok (index_values es (node + nodes_of_ix i) names) _ _ p.2 in
     ap (λ u. u ∷ map (λ e. whole e names) es) (is_whole i names node p.0 p.1) ∙ ap (λ u. p.0 ∷ u) (are_whole es names _ q.0 q.1) ∙ same_ok _ _ q.2
-
-hold_if : (t u : Bool) (r : Result Bool Cause) (b : Bool) → ((d : Bool) → r ≡ Ok d → u ≡ d) → (if t then r else Ok false) ≡ Ok b → t && u ≡ b
-hold_if true u r b h e = h b e
-hold_if false u r b h e = same_ok _ _ e
-
-pub conditions_hold : (cs : List Compare) (names : List ℤ) (node : ℕ) (b : Bool) → conditions cs node names ≡ Ok b → all_hold cs names ≡ b
-conditions_hold [] names node b e = same_ok _ _ e
-conditions_hold (d ∷ cs) names node b e =
-    let p = bind_ok (index_value d.left (node + 1) names) _ _ e in
-    let q = bind_ok (index_value d.right (node + 1 + nodes_of_ix d.left) names) _ _ p.2 in
-    ap (λ u. compares d.rel u (whole d.right names) && all_hold cs names) (is_whole d.left names _ p.0 p.1)
-    ∙ ap (λ u. compares d.rel p.0 u && all_hold cs names) (is_whole d.right names _ q.0 q.1)
-    ∙ hold_if (compares d.rel p.0 q.0) (all_hold cs names) _ b (λ d. conditions_hold cs names _ d) q.2
 
 -- ---- values
 

@@ -7,7 +7,7 @@ use Rattle.affc_ast.specs.declared.tree.Stmt.{Stmt}
 use Rattle.affc_ast.specs.declared.tree.Stmt.TheVariants as s
 use Rattle.affc_ast.specs.declared.tree.Stmt.TheBlock.{Row_of-Stmt, more_of-Stmt, end_of-Stmt}
 use Rattle.affc_ast.specs.declared.tree.Program.{Program}
-use Rattle.affc_ast.specs.Fits.{all_hold}
+use Rattle.affc_ast.specs.Fits.{is_true_at}
 use Rattle.affc_ast.specs.Trace.{count_from, walk_step, in_walk_order, trace}
 use Rattle.affc_ast.specs.Recursion.{by_stmt, by_each}
 use Rattle.affc_trace.specs.Law.{IsIn}
@@ -63,9 +63,21 @@ module _ (p : List ℤ) where
   assigns_of : {n : _} → Row_of-Stmt n → ℕ
   assigns_of body = sum_by (λ w. w.assigns) (by_each (walk_step p) body)
 
-  pub if_in : (b : Bool) (a : Instance) (is : List Instance) → IsIn a (if b then is else []) → IsIn a is
-  if_in true a is i = i
-  if_in false a is i = absurd i
+  pub if_in : (b : Bool) (a : Instance) (is js : List Instance) → IsIn a (if b then is else js) → ((b ≡ true) × IsIn a is) ⊎ ((b ≡ false) × IsIn a js)
+  if_in true a is js i = inl (refl, i)
+  if_in false a is js i = inr (refl, i)
+
+  -- among the first of these statements, or the others
+  within_first : (k n m : ℕ) (ts : List ℤ) (b : Instance) → Within k n ts b → Within k (n + m) ts b
+  unfolding Within
+  within_first k n m ts b w = let l : w.0 < n = w.2 in (w.0, w.1, omega arith, w.3, w.4)
+
+  within_second : (k n m : ℕ) (ts : List ℤ) (b : Instance) → Within (k + n) m ts b → Within k (n + m) ts b
+  unfolding Within
+  within_second k n m ts b w =
+      let l : w.0 < m = w.2 in
+      let q : b.statement ≡ (k + n) + w.0 = w.3 in
+      (n + w.0, w.1, omega arith, omega arith, w.4)
 
   mutual
     unfolding Within assigns_of
@@ -75,7 +87,10 @@ module _ (p : List ℤ) where
         let r = in_flat_map (λ y. in_walk_order (by_each (walk_step p) body) k (ts ++ y ∷ [])) _ b i in
         let w = row_lies body k (ts ++ r.0 ∷ []) b r.2 in
         (w.0, r.0 ∷ w.1, w.2, w.3, w.4 ∙ append_assoc ts (r.0 ∷ []) w.1)
-    lies (s.If' conds shape body) k ts b i = row_lies body k ts b (if_in (all_hold conds (p ++ ts)) b _ i)
+    lies (s.If' cond shape body shape' other) k ts b i = elim (if_in (is_true_at cond (p ++ ts)) b _ _ i) [
+      | inl j ↦ within_first k (assigns_of body) (assigns_of other) ts b (row_lies body k ts b j.1)
+      | inr j ↦ within_second k (assigns_of body) (assigns_of other) ts b (row_lies other (k + assigns_of body) ts b j.1)
+    ]
     lies (s.Assign op array subs value) k ts b (inl e) = (0, [], omega arith, ap (λ u. u.statement) e ∙ omega arith, ap (λ u. u.iterators) e ∙ sym (append_nil ts))
     lies (s.Assign op array subs value) k ts b (inr i) = absurd i
     lies (s.Block' locals shape body) k ts b i = row_lies body k ts b i
@@ -95,9 +110,9 @@ module _ (p : List ℤ) where
               ((by_stmt (walk_step p) x).assigns + w.0, w.1, m, omega arith, w.4)
         ]
 
-  distinct_if : (b : Bool) (is : List Instance) → AreDistinct is → AreDistinct (if b then is else [])
-  distinct_if true is d = d
-  distinct_if false is d = tt
+  distinct_if : (b : Bool) (is js : List Instance) → AreDistinct is → AreDistinct js → AreDistinct (if b then is else js)
+  distinct_if true is js d e = d
+  distinct_if false is js d e = e
 
   apart_in_turns : (k n : ℕ) (ts : List ℤ) (x y : ℤ) (b : Instance) → Within k n (ts ++ x ∷ []) b → Within k n (ts ++ y ∷ []) b → x ≡ y
   unfolding Within
@@ -112,11 +127,13 @@ module _ (p : List ℤ) where
       omega arith
 
   mutual
+    unfolding assigns_of
+
     stands_once : (x : Stmt) (k : ℕ) (ts : List ℤ) → AreDistinct ((by_stmt (walk_step p) x).instances k ts)
     stands_once (s.For' iter low rel high shape body) k ts =
         distinct_flat_map (λ y. in_walk_order (by_each (walk_step p) body) k (ts ++ y ∷ [])) _ (from_distinct _ _) (λ y. row_once body k (ts ++ y ∷ []))
         (λ y z b i j. apart_in_turns k (assigns_of body) ts y z b (row_lies body k (ts ++ y ∷ []) b i) (row_lies body k (ts ++ z ∷ []) b j))
-    stands_once (s.If' conds shape body) k ts = distinct_if (all_hold conds (p ++ ts)) _ (row_once body k ts)
+    stands_once (s.If' cond shape body shape' other) k ts = distinct_if (is_true_at cond (p ++ ts)) _ _ (row_once body k ts) (row_once other (k + assigns_of body) ts)
     stands_once (s.Assign op array subs value) k ts = (λ i. i, tt)
     stands_once (s.Block' locals shape body) k ts = row_once body k ts
 

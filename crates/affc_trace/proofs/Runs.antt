@@ -92,11 +92,14 @@ length_append (x ∷ xs) ys = let e : length (xs ++ ys) ≡ length xs + length y
 mutual
   pub part_count : (x : Stmt) → (denotation_of x).assigns ≡ length (by_stmt assignments_step x)
   part_count (s.For' iter low rel high shape body) = parts_count body
-  part_count (s.If' conds shape body) = parts_count body
+  part_count (s.If' cond shape body shape' other) =
+      ap (λ u. u + sum_by (λ p. p.assigns) (by_each stmt_step other)) (parts_count body)
+      ∙ ap (λ u. length (flat_map (λ a. a) (by_each assignments_step body)) + u) (parts_count other)
+      ∙ sym (length_append (flat_map (λ a. a) (by_each assignments_step body)) (flat_map (λ a. a) (by_each assignments_step other)))
   part_count (s.Assign op array subs value) = refl
   part_count (s.Block' locals shape body) = parts_count body
 
-  parts_count : {n : _} (body : Row_of-Stmt n) → sum_by (λ p. p.assigns) (by_each stmt_step body) ≡ length (flat_map (λ a. a) (by_each assignments_step body))
+  pub parts_count : {n : _} (body : Row_of-Stmt n) → sum_by (λ p. p.assigns) (by_each stmt_step body) ≡ length (flat_map (λ a. a) (by_each assignments_step body))
   parts_count end_of-Stmt = refl
   parts_count (more_of-Stmt x rest) =
       sum_by-cons (λ p. p.assigns) (by_stmt stmt_step x) (by_each stmt_step rest)
@@ -107,11 +110,12 @@ mutual
 mutual
   pub walk_count : (p : List ℤ) (x : Stmt) → (by_stmt (walk_step p) x).assigns ≡ (denotation_of x).assigns
   walk_count p (s.For' iter low rel high shape body) = walks_count p body
-  walk_count p (s.If' conds shape body) = walks_count p body
+  walk_count p (s.If' cond shape body shape' other) =
+      ap (λ u. u + sum_by (λ w. w.assigns) (by_each (walk_step p) other)) (walks_count p body) ∙ ap (λ u. sum_by (λ p. p.assigns) (by_each stmt_step body) + u) (walks_count p other)
   walk_count p (s.Assign op array subs value) = refl
   walk_count p (s.Block' locals shape body) = walks_count p body
 
-  walks_count : {n : _} (p : List ℤ) (body : Row_of-Stmt n) → sum_by (λ w. w.assigns) (by_each (walk_step p) body) ≡ sum_by (λ p. p.assigns) (by_each stmt_step body)
+  pub walks_count : {n : _} (p : List ℤ) (body : Row_of-Stmt n) → sum_by (λ w. w.assigns) (by_each (walk_step p) body) ≡ sum_by (λ p. p.assigns) (by_each stmt_step body)
   walks_count p end_of-Stmt = refl
   walks_count p (more_of-Stmt x rest) =
       sum_by-cons (λ w. w.assigns) (by_stmt (walk_step p) x) (by_each (walk_step p) rest)

@@ -1,5 +1,5 @@
 -- The effects of a program without locals are those of its trace's instances.
-use Rattle.std.proofs.Common.{◌≡◌, ℕ, ◌+◌, ℤ, T, Bool, true, false, if◌then◌else◌, List, [], ◌∷◌, ◌++◌, Some, map, flat_map, refl, sym, ap, subst, ◌∙◌, arith}
+use Rattle.std.proofs.Common.{◌≡◌, ℕ, ◌+◌, ℤ, T, Bool, true, false, if◌then◌else◌, List, [], ◌∷◌, ◌++◌, Some, map, flat_map, sum_by, refl, sym, ap, subst, ◌∙◌, arith}
 use Rattle.std.specs.Prelude.{slice_get}
 use Rattle.affc_ast.specs.declared.tree.Stmt.{Stmt}
 use Rattle.affc_ast.specs.declared.tree.Stmt.TheVariants as s
@@ -7,22 +7,22 @@ use Rattle.affc_ast.specs.declared.tree.Stmt.TheBlock.{Row_of-Stmt, more_of-Stmt
 use Rattle.affc_ast.specs.declared.tree.Program.{Program}
 use Rattle.affc_ast.specs.Store.{Element}
 use Rattle.affc_ast.specs.declared.tree.Instance.{Instance}
-use Rattle.affc_ast.specs.Fits.{all_hold}
+use Rattle.affc_ast.specs.Fits.{is_true_at}
 use Rattle.affc_ast.specs.Trace.{walk_step, in_walk_order, Assignment, assignments_step, assignments, trace}
 use Rattle.affc_ast.specs.Recursion.{by_stmt, by_each}
 use Rattle.affc_trace.specs.Law.{Effect}
 use Rattle.affc_trace.specs.Effects.{effect_by, effect, each_of, effects_step, effects, plain_step, all_true, has_no_locals}
 use Rattle.affc_trace.proofs.LastStores.{map_append, append_nil}
 use Rattle.affc_trace.proofs.EndedReads.{append_assoc}
-use Rattle.affc_trace.proofs.Runs.{PartsAt, parts_left, parts_right, part_count, walk_count, both_true}
+use Rattle.affc_trace.proofs.Runs.{PartsAt, parts_left, parts_right, part_count, parts_count, walk_count, walks_count, both_true}
 
 map_flat_map : {A B C : Type 0} (f : B → C) (g : A → List B) (h : A → List C) (xs : List A) → ((x : A) → h x ≡ map f (g x)) → flat_map h xs ≡ map f (flat_map g xs)
 map_flat_map f g h [] e = refl
 map_flat_map f g h (x ∷ xs) e = ap (λ l. l ++ flat_map h xs) (e x) ∙ ap (λ l. map f (g x) ++ l) (map_flat_map f g h xs e) ∙ sym (map_append f (g x) (flat_map g xs))
 
-map_if : {A B : Type 0} (f : A → B) (b : Bool) (xs : List A) (ys : List B) → ys ≡ map f xs → (if b then ys else []) ≡ map f (if b then xs else [])
-map_if f true xs ys e = e
-map_if f false xs ys e = refl
+map_if : {A B : Type 0} (f : A → B) (b : Bool) (xs us : List A) (ys vs : List B) → ys ≡ map f xs → vs ≡ map f us → (if b then ys else vs) ≡ map f (if b then xs else us)
+map_if f true xs us ys vs e g = e
+map_if f false xs us ys vs e g = g
 
 -- what an instance does, where these are the assignments by their numbers
 abbrev pub effect_in : List Assignment → List ℤ → Instance → Effect Element ℕ
@@ -40,7 +40,13 @@ module _ (all : List Assignment) (p : List ℤ) where
     stmt_effects (s.For' iter low rel high shape body) k ts plain parts =
         map_flat_map (effect_in all p) (λ y. in_walk_order (by_each (walk_step p) body) k (ts ++ y ∷ [])) (λ y. each_of (by_each effects_step body) ((p ++ ts) ++ y ∷ [])) _ (λ y.
         ap (each_of (by_each effects_step body)) (append_assoc p ts (y ∷ [])) ∙ row_effects body k (ts ++ y ∷ []) plain parts)
-    stmt_effects (s.If' conds shape body) k ts plain parts = map_if _ (all_hold conds (p ++ ts)) _ _ (row_effects body k ts plain parts)
+    stmt_effects (s.If' cond shape body shape' other) k ts plain parts =
+        let both = both_true (all_true (by_each plain_step body)) (all_true (by_each plain_step other)) plain in
+        let first : List Assignment = flat_map (λ a. a) (by_each assignments_step body) in
+        let second : List Assignment = flat_map (λ a. a) (by_each assignments_step other) in
+        let right : PartsAt all (k + sum_by (λ w. w.assigns) (by_each (walk_step p) body)) second =
+        subst (λ m. PartsAt all (k + m) second) (sym (walks_count p body ∙ parts_count body)) (parts_right all k first second parts) in
+        map_if _ (is_true_at cond (p ++ ts)) _ _ _ _ (row_effects body k ts both.0 (parts_left all k first second parts)) (row_effects other (k + sum_by (λ w. w.assigns) (by_each (walk_step p) body)) ts both.1 right)
     stmt_effects (s.Assign op array subs value) k ts plain parts =
         let n : k + 0 ≡ k = omega arith in
         let found : Some (record { op = op; array = array; subs = subs; value = value }) ≡ slice_get all k = sym (ap (slice_get all) (sym n) ∙ parts 0 _ refl) in

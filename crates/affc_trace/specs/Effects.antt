@@ -10,7 +10,7 @@ use Rattle.affc_ast.specs.declared.tree.Program.{Program}
 use Rattle.affc_ast.specs.Store.{Element}
 use Rattle.affc_ast.specs.Values.{operate, complement, shifted, converted}
 use Rattle.affc_ast.specs.Meaning.{turns_of}
-use Rattle.affc_ast.specs.Fits.{whole, all_hold}
+use Rattle.affc_ast.specs.Fits.{whole, is_true_at}
 use Rattle.affc_ast.specs.Trace.{count_from, Assignment, assignments, loaded_by, stored_by}
 use Rattle.affc_ast.specs.Recursion.{by_val, by_stmt}
 pub use Rattle.affc_ast.specs.Locals.{all_true, plain_step, has_no_locals}
@@ -74,7 +74,7 @@ abbrev pub effects_step : Stmt-F (List ℤ → List (Effect Element ℕ)) → Li
 effects_step (For iter low rel high body) names =
     let first = whole low names in
     flat_map (λ x. each_of body (names ++ x ∷ [])) (count_from (turns_of rel first (whole high names)) first)
-effects_step (If conds body) names = if all_hold conds names then each_of body names else []
+effects_step (If cond body other) names = if is_true_at cond names then each_of body names else each_of other names
 effects_step (Assign op array subs value) names = effect_by (Some (record { op = op; array = array; subs = subs; value = value })) names ∷ []
 effects_step (Block locals body) names = each_of body (with_all locals names)
 

@@ -5,6 +5,7 @@ use Rattle.std.proofs.Common.{subst, lit≤}
 use Rattle.std.proofs.lemmas.List.Elements.{All-nil, All-cons}
 use Rattle.std.proofs.lemmas.Option.{same_Some, none-some}
 use Rattle.affc_rows.specs.Forms.{Affine, HaveColumns, columns_of, composed_form}
+use Rattle.affc_ast.specs.declared.tree.Cond.TheVariants as cond
 use Rattle.affc_ast.specs.declared.tree.Decl.{Decl}
 use Rattle.affc_ast.specs.declared.tree.Instance.{Instance}
 use Rattle.affc_ast.specs.declared.tree.Ix.{Ix}
@@ -334,7 +335,7 @@ touch = store 2 (lit 0 ∷ []) (Const 1)
 
 abbrev nest : Program
 nest = program (lit 1 ∷ []) (
-    each (lit 0) n (touch ∷ each (lit 0) n (touch ∷ []) ∷ If (record { rel = Less; left = lit 0; right = n } ∷ []) (touch ∷ []) ∷ [])
+    each (lit 0) n (touch ∷ each (lit 0) n (touch ∷ []) ∷ If (cond.Compare Less (lit 0) n) (touch ∷ []) [] ∷ [])
     ∷ touch
     ∷ Block [] (each (lit 0) n (touch ∷ []) ∷ [])
     ∷ [])
@@ -346,7 +347,7 @@ LoopsAreCounted = loops_round nest ≡ 1 ∷ 2 ∷ 1 ∷ 0 ∷ 1 ∷ []
 abbrev pub LocalsAreSeen : Type 0
 LocalsAreSeen =
     (has_no_locals nest ≡ true)
-    × (has_no_locals (program [] (each (lit 0) n (If [] (Block (record { name = []; value = n } ∷ []) [] ∷ []) ∷ []) ∷ [])) ≡ false)
+    × (has_no_locals (program [] (each (lit 0) n (If (cond.Compare Less (lit 0) n) (Block (record { name = []; value = n } ∷ []) [] ∷ []) [] ∷ []) ∷ [])) ≡ false)
 
 -- ---- A scalar: { t = in[i]; out[i] = t; }
 

@@ -61,7 +61,7 @@ each_round (f ∷ fs) depth = f depth ++ each_round fs depth
 -- for each statement, how many loops stand round it
 abbrev pub loops_step : Stmt-F (ℕ → List ℕ) → (depth : ℕ) → List ℕ
 loops_step (For iter low rel high body) depth = each_round body (suc depth)
-loops_step (If conds body) depth = each_round body depth
+loops_step (If cond body other) depth = each_round body depth ++ each_round other depth
 loops_step (Assign op array subs value) depth = depth ∷ []
 loops_step (Block locals body) depth = each_round body depth
 
