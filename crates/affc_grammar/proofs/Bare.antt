@@ -11,9 +11,9 @@ use Rattle.affc_ast.specs.Locals.{all_true, plain_step, has_no_locals}
 use Rattle.affc_ast.specs.Recursion.{by_stmt}
 use Rattle.affc_grammar.specs.Grammar as g
 use Rattle.affc_grammar.specs.Grammar.{StmtsText, StmtText, SimpleText, BodyText}
-use Rattle.affc_grammar.specs.Draft.{StmtsDraft, no_stmts, and_stmt, StmtDraft, for_loop, if_all, assign, block, stmts_draft, stmt_draft, simple_draft, body_draft, text_draft}
+use Rattle.affc_grammar.specs.Draft.{StmtsDraft, no_stmts, and_stmt, StmtDraft, for_loop, if_cond, assign, block, stmts_draft, stmt_draft, simple_draft, body_draft, text_draft}
 use Rattle.affc_grammar.specs.Limits.{Limits}
-use Rattle.affc_grammar.specs.Names.{Scope, each, ix_tree, compare_tree, value_tree, array_named, locals_tree, head_tree, stmts_tree, stmt_tree, with_number}
+use Rattle.affc_grammar.specs.Names.{Scope, each, ix_tree, cond_tree, value_tree, array_named, locals_tree, head_tree, stmts_tree, stmt_tree, with_number}
 use Rattle.affc_grammar.specs.Reads.{symbols, has_prelude, ReadsBy}
 use Rattle.affc_grammar.proofs.Counts.{tree_parts, tree_kept}
 use Rattle.affc_grammar.proofs.Steps.{ok_of, then_is, for_here, if_here, block_here}
@@ -26,7 +26,7 @@ abbrev mutual
 
   IsBare : StmtDraft → Type 0
   IsBare (for_loop h body) = AreBare body
-  IsBare (if_all at cs body) = AreBare body
+  IsBare (if_cond at c body other) = AreBare body × AreBare other
   IsBare (assign w subs op v) = Unit {0}
   IsBare (block ls body) = (ls ≡ []) × AreBare body
 
@@ -42,12 +42,13 @@ mutual
   stmt_bare at (g.block g.no_locals ss) = (refl, stmts_bare _ ss)
   stmt_bare at (g.block (g.and_local h ls w a) ss) = absurd (false≢true h)
 
-  simple_bare : (at : ℕ) (s : SimpleText false) → IsBare (simple_draft at s)
+  simple_bare : {dangles : Bool} (at : ℕ) (s : SimpleText false dangles) → IsBare (simple_draft at s)
   simple_bare at (g.for_loop iterator low tested strict high step body) = body_bare _ body
-  simple_bare at (g.if_all cs body) = body_bare _ body
+  simple_bare at (g.if_then c body) = (body_bare _ body, tt)
+  simple_bare at (g.if_else c body other) = (body_bare _ body, body_bare _ other)
   simple_bare at (g.assign array subs op v) = tt
 
-  body_bare : (at : ℕ) (b : BodyText false) → AreBare (body_draft at b)
+  body_bare : {dangles : Bool} (at : ℕ) (b : BodyText false dangles) → AreBare (body_draft at b)
   body_bare at (g.braces ss) = stmts_bare _ ss
   body_bare at (g.bare s) = (tt, simple_bare at s)
 
@@ -79,10 +80,12 @@ mutual
       let q = then_is (stmts_tree (with_number true scope h.iterator.name) body) _ x p.2 in
       subst (λ (y : Stmt). by_stmt plain_step y ≡ true) (ok_of q.2)
       (for_here plain_step h.iterator.name p.0.0 h.rel p.0.1 q.0 ∙ stmts_plain (with_number true scope h.iterator.name) body q.0 q.1 bare)
-  stmt_plain scope (if_all at cs body) x e bare =
-      let p = then_is (each (compare_tree scope) cs) _ x e in
+  stmt_plain scope (if_cond at c body other) x e bare =
+      let p = then_is (cond_tree scope c) _ x e in
       let q = then_is (stmts_tree scope body) _ x p.2 in
-      subst (λ (y : Stmt). by_stmt plain_step y ≡ true) (ok_of q.2) (if_here plain_step p.0 q.0 ∙ stmts_plain scope body q.0 q.1 bare)
+      let r = then_is (stmts_tree scope other) _ x q.2 in
+      subst (λ (y : Stmt). by_stmt plain_step y ≡ true) (ok_of r.2)
+      (if_here plain_step p.0 q.0 r.0 ∙ and_from _ _ (stmts_plain scope body q.0 q.1 bare.0) (stmts_plain scope other r.0 r.1 bare.1))
   stmt_plain scope (assign w subs op v) x e bare =
       let p = then_is (array_named scope w.at w.name true (length subs)) _ x e in
       let q = then_is (each (ix_tree scope) subs) _ x p.2 in

@@ -5,14 +5,14 @@ use Rattle.affc_lex.specs.declared.token.Kind.TheVariants.{Prelude}
 use Rattle.affc_lex.specs.Bytes.{same}
 use Rattle.affc_lex.specs.Pieces.{prelude}
 use Rattle.affc_grammar.specs.Grammar as g
-use Rattle.affc_grammar.specs.Grammar.{Symbol, Name, LineText, line_feed, text_end, word, number, mark, IxText, DimsText, StmtsText, StmtText, ParamText, ParamsText, NamesText, DeclsText, FunctionText, IntText, PragmasText, Text, ix_symbols, dim_symbols, dims_symbols, conds_symbols, stmts_symbols, stmt_symbols, param_symbols, params_symbols, names_symbols, decls_symbols, function_symbols, int_symbols, line_symbols, pragmas_symbols, prelude_symbols, text_symbols, context_calls}
+use Rattle.affc_grammar.specs.Grammar.{Symbol, Name, LineText, line_feed, text_end, word, number, mark, IxText, DimsText, StmtsText, StmtText, ParamText, ParamsText, NamesText, DeclsText, FunctionText, IntText, PragmasText, Text, ix_symbols, dim_symbols, dims_symbols, cond_symbols, stmts_symbols, param_symbols, params_symbols, names_symbols, decls_symbols, function_symbols, int_symbols, line_symbols, pragmas_symbols, prelude_symbols, text_symbols, context_calls}
 use Rattle.affc_grammar.specs.Reader.{Reader, on, all, IsReader}
-use Rattle.affc_grammar.specs.Reading.{this_mark, any_word, hash, line_end, First, a_word, first_of, read_array, read_param, param_more, read_params, name_more, read_names, Inside, inside_stmt, inside_word, inside_more, read_function, read_int, pragma_more, read_without, read_text}
+use Rattle.affc_grammar.specs.Reading.{this_mark, any_word, hash, line_end, First, a_word, first_of, read_array, read_param, param_more, read_params, name_more, read_names, Inside, and_ended, inside_stmt, inside_word, inside_more, read_function, read_int, pragma_more, read_without, read_text}
 use Rattle.affc_grammar.proofs.Tests.{first_test, holding_is}
 use Rattle.affc_grammar.proofs.Rules.{param_more_rule, name_more_rule, inside_more_rule, pragma_rule}
 use Rattle.affc_grammar.proofs.Done.{Gets, NotNext, gets_give, gets_after, gets_on, gets_other, gets_end, gets_turn, gets_finished}
-use Rattle.affc_grammar.proofs.Complete.{EndsIx, regroup, ix_inside_gets, dims_gets, conds_gets, inside_room}
-use Rattle.affc_grammar.proofs.CompleteStatements.{first_word, simple_tail, stmt_first, stmt_tail, stmt_split, stmt_gets, tail_no_word}
+use Rattle.affc_grammar.proofs.Complete.{EndsIx, regroup, ix_inside_gets, dims_gets, cond_gets, inside_room}
+use Rattle.affc_grammar.proofs.CompleteStatements.{first_word, simple_tail, stmt_first, stmt_tail, tail_no_word, tokens, Loop, in_function, stmts_open}
 
 -- ---- Parameters
 
@@ -82,18 +82,17 @@ inside_word_off calls room ds g.no_stmts w true ts rest b e h = gets_other _ _ e
 inside_word_off calls room ds g.no_stmts w false ts rest b e h = h
 inside_word_off calls room ds (g.and_stmt ss s) w c ts rest b e h = h
 
-inside_more_off : (calls : Bool) (room : ℕ) (ds : DeclsText calls) (ss : StmtsText calls) (s : StmtText calls) (rest : List Symbol) (b : Inside calls) → Gets (inside_stmt calls room ds ss (stmt_first s)) (stmt_tail s ++ rest) b rest → Gets (inside_more calls room (stmt_first s) (record { decls = ds; stmts = ss })) (stmt_tail s ++ rest) b rest
-inside_more_off calls room ds ss (g.simple s) rest b h = inside_word_off calls room ds ss (first_word s) (same (first_word s) (codes "uint64_t")) (simple_tail s ++ rest) rest b (tail_no_word any_word (λ bytes us. refl) s rest) h
-inside_more_off calls room ds ss (g.block ks ts) rest b h = h
+inside_more_off : (calls : Bool) (room : ℕ) (ds : DeclsText calls) (ss : StmtsText calls) (s : StmtText calls) (us rest : List Symbol) (b : Inside calls) → Gets (inside_stmt calls room ds ss (stmt_first s)) (stmt_tail s ++ us) b rest → Gets (inside_more calls room (stmt_first s) (record { decls = ds; stmts = ss })) (stmt_tail s ++ us) b rest
+inside_more_off calls room ds ss (g.simple s) us rest b h = inside_word_off calls room ds ss (first_word s) (same (first_word s) (codes "uint64_t")) (simple_tail s ++ us) rest b (tail_no_word any_word (λ bytes us. refl) s us) h
+inside_more_off calls room ds ss (g.block ks ts) us rest b h = h
 
-inside_open : (calls : Bool) (c : StmtsText calls) (ds : DeclsText calls) (room : ℕ) (rest : List Symbol) (d : Inside calls) (end : List Symbol) → Gets (inside_loop calls room (record { decls = ds; stmts = c })) rest d end
-    → Gets (inside_loop calls room (record { decls = ds; stmts = g.no_stmts })) (stmts_symbols c ++ rest) d end
-inside_open calls g.no_stmts ds room rest d end h = h
-inside_open calls (g.and_stmt ss s) ds room rest d end h =
-    regroup (stmts_symbols ss) (stmt_symbols s) rest
-    (inside_open calls ss ds room (stmt_symbols s ++ rest) d end
-    (subst (λ l. Gets (inside_loop calls room (record { decls = ds; stmts = ss })) (l ++ rest) d end) (sym (stmt_split s))
-    (gets_turn (inside_reader calls room) (first_test.passes (stmt_first s)) (inside_more_off calls room ds ss s rest (record { decls = ds; stmts = g.and_stmt ss s }) (gets_after _ (stmt_gets calls s room rest) gets_give)) h)))
+abbrev inside_loop_of : (calls : Bool) (room : ℕ) (ds : DeclsText calls) → Loop calls room in_function
+inside_loop_of calls room ds = record {
+  more = inside_more calls room;
+  put = λ ss. record { decls = ds; stmts = ss };
+  reader = inside_reader calls room;
+  one = λ ss s us rest e h. inside_more_off calls room ds ss s us rest (record { decls = ds; stmts = and_ended ss e }) (gets_after _ h gets_give);
+}
 
 function_gets : (calls : Bool) (f : FunctionText calls) (room : ℕ) (rest : List Symbol) → Gets (read_function calls room) (function_symbols f ++ rest) f rest
 function_gets calls f room rest =
@@ -101,7 +100,7 @@ function_gets calls f room rest =
     (regroup (params_symbols f.params) (mark (codes ")") ∷ mark (codes "{") ∷ (decls_symbols f.decls ++ (stmts_symbols f.stmts ++ mark (codes "}") ∷ []))) rest (inside_room room (λ r. params_open calls f.params r _ f.params _ refl (gets_end _ _ refl))))
     (gets_on _ _ _ refl (gets_on _ _ _ refl (gets_after _
     (regroup (decls_symbols f.decls) (stmts_symbols f.stmts ++ mark (codes "}") ∷ []) rest (inside_room room (λ r. decls_open calls f.decls r ((stmts_symbols f.stmts ++ mark (codes "}") ∷ []) ++ rest) (record { decls = f.decls; stmts = f.stmts }) (mark (codes "}") ∷ rest)
-    (regroup (stmts_symbols f.stmts) (mark (codes "}") ∷ []) rest (inside_open calls f.stmts f.decls r (mark (codes "}") ∷ rest) (record { decls = f.decls; stmts = f.stmts }) (mark (codes "}") ∷ rest) (gets_end _ _ refl))))))
+    (regroup (stmts_symbols f.stmts) (mark (codes "}") ∷ []) rest (stmts_open calls r in_function (inside_loop_of calls r f.decls) f.stmts (tokens (mark (codes "}") ∷ rest) (λ k. refl)) (record { decls = f.decls; stmts = f.stmts }) (mark (codes "}") ∷ rest) (gets_end _ _ refl))))))
     (gets_on _ _ _ refl gets_give)))))))
 
 -- ---- Lines
@@ -121,9 +120,9 @@ line_ends : (line : LineText) (rest : List Symbol) → EndsIx (line_symbols line
 line_ends line_feed rest = (refl, refl, refl)
 line_ends text_end rest = (refl, refl, refl)
 
-line_no_and : (line : LineText) (rest : List Symbol) → NotNext (this_mark (codes "&&")) (line_symbols line ++ rest)
-line_no_and line_feed rest = refl
-line_no_and text_end rest = refl
+line_no_mark : (bytes : List ℕ) (line : LineText) (rest : List Symbol) → NotNext (this_mark bytes) (line_symbols line ++ rest)
+line_no_mark bytes line_feed rest = refl
+line_no_mark bytes text_end rest = refl
 
 pragma_reader : (room : ℕ) (x : Symbol) (k : Unit {0}) → hash x ≡ Some k → (ps : PragmasText) → IsReader (pragma_more room k ps)
 pragma_reader room x k q ps = (pragma_rule room k ps).reader
@@ -136,11 +135,11 @@ pragmas_open (g.and_range ps w low high line) room rest d end h =
     (gets_turn (pragma_reader room) refl (gets_on _ _ _ refl (gets_on _ _ _ refl (gets_on _ _ _ refl (gets_on _ _ _ refl
     (gets_after _ (regroup (int_symbols low) (int_symbols high ++ line_symbols line) rest (int_gets low _))
     (gets_after _ (regroup (int_symbols high) (line_symbols line) rest (int_gets high _)) (line_gets line _ gets_give))))))) h))
-pragmas_open (g.and_context ps cs line) room rest d end h =
+pragmas_open (g.and_context ps c line) room rest d end h =
     regroup (pragmas_symbols ps) _ rest
     (pragmas_open ps room _ d end
     (gets_turn (pragma_reader room) refl (gets_on _ _ _ refl (gets_on _ _ _ refl (gets_other _ _ refl (gets_on _ _ _ refl
-    (gets_after _ (regroup (conds_symbols cs) (line_symbols line) rest (conds_gets true cs room (line_symbols line ++ rest) (line_ends line rest) (line_no_and line rest))) (line_gets line _ gets_give)))))) h))
+    (gets_after _ (regroup (cond_symbols c) (line_symbols line) rest (cond_gets true false c room (line_symbols line ++ rest) (line_ends line rest, line_no_mark (codes "&&") line rest) (line_no_mark (codes "||") line rest))) (line_gets line _ gets_give)))))) h))
 
 -- ---- Texts
 

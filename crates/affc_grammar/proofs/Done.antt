@@ -1,5 +1,5 @@
 -- A reader that reads all of what is given, up to what is left; that it runs out of room is let through.
-use Rattle.std.proofs.Common.{◌≡◌, List, [], ◌∷◌, Option, Some, None, Ok, Err, refl, sym, ◌∙◌, subst}
+use Rattle.std.proofs.Common.{◌≡◌, List, [], ◌∷◌, Option, Some, None, Ok, Err, refl, sym, ap, ◌∙◌, subst}
 use Rattle.affc_grammar.specs.Reader.{At, Deep, Read, Reader, then_read, on_some, Turn, give, deep, after, either, many, all, until, and_on, finished, IsReader}
 use Rattle.affc_grammar.proofs.Closed.{all_is, until_is}
 
@@ -45,6 +45,20 @@ other_at test past other (x ∷ ts) a rest e h = subst (λ o. IsDone a rest (on_
 
 pub gets_other : {T A K : Type 0} (test : T → Option K) (past : K → Reader T A) {other : Reader T A} {ts rest : List T} {a : A} → NotNext test ts → Gets other ts a rest → Gets (either test past other) ts a rest
 gets_other test past {other} {ts} {rest} {a} e h = record { is = other_at test past other ts a rest e h.is }
+
+-- past the first token
+pub gets_past : {T A K : Type 0} (test : T → Option K) (past : K → Reader T A) (other : Reader T A) {x : T} {ts rest : List T} {k : K} {a : A} → test x ≡ Some k → Gets (either test past other) (x ∷ ts) a rest → Gets (past k) ts a rest
+unfolding either
+gets_past test past other {x} {ts} {rest} {a = a} e h = record { is = subst (λ o. IsDone a rest (on_some o (λ k. past k ts) (other (x ∷ ts)))) e h.is }
+
+passed_by : {T A K : Type 0} (test : T → Option K) (past : K → Reader T A) (other : Reader T A) (ts : List T) → NotNext test ts → either test past other ts ≡ other ts
+unfolding either
+passed_by test past other [] e = refl
+passed_by test past other (x ∷ ts) e = ap (λ o. on_some o (λ k. past k ts) (other (x ∷ ts))) e
+
+pub gets_other_then : {T A C K : Type 0} (test : T → Option K) (past : K → Reader T A) (other : Reader T A) (next : A → Reader T C) {ts rest : List T} {c : C} → NotNext test ts → Gets (after other next) ts c rest → Gets (after (either test past other) next) ts c rest
+unfolding after
+gets_other_then test past other next {ts} {rest} {c} e h = record { is = subst (λ r. IsDone c rest (then_read r next)) (sym (passed_by test past other ts e)) h.is }
 
 -- a loop ends
 end_at : {T A K : Type 0} (test : T → Option K) (turn : K → A → Reader T A) (a : A) (rest : List T) → NotNext test rest → IsDone a rest (all test turn a rest)

@@ -3,9 +3,9 @@ use Rattle.std.proofs.Common.{◌≡◌, ℕ, ◌+◌, ◌≤◌, Bool, List, []
 use Rattle.std.specs.Prelude.{sum_by}
 use Rattle.std.proofs.lemmas.List.Sums.{sum_by-cons, sum_by-append}
 use Rattle.affc_grammar.specs.Grammar as g
-use Rattle.affc_grammar.specs.Grammar.{Symbol, IxText, TermText, FactorText, AtomText, DimsText, CondsText, CondText, ValueText, StepText, LocalsText, StmtsText, StmtText, SimpleText, BodyText, ParamText, ParamsText, NamesText, DeclsText, FunctionText, PragmasText, Text, ix_symbols, term_symbols, factor_symbols, atom_symbols, dim_symbols, dims_symbols, conds_symbols, cond_symbols, value_symbols, step_symbols, locals_symbols, stmts_symbols, stmt_symbols, simple_symbols, body_symbols, const_symbols, param_symbols, params_symbols, names_symbols, decls_symbols, int_symbols, line_symbols, pragmas_symbols, include_symbols, prelude_symbols, function_symbols, text_symbols}
+use Rattle.affc_grammar.specs.Grammar.{Symbol, IxText, TermText, FactorText, AtomText, DimsText, CondText, AllText, PrimText, ValueText, StepText, LocalsText, StmtsText, StmtText, SimpleText, BodyText, ParamText, ParamsText, NamesText, DeclsText, FunctionText, PragmasText, Text, ix_symbols, term_symbols, factor_symbols, atom_symbols, dim_symbols, dims_symbols, cond_symbols, all_symbols, prim_symbols, value_symbols, step_symbols, locals_symbols, stmts_symbols, stmt_symbols, simple_symbols, body_symbols, const_symbols, param_symbols, params_symbols, names_symbols, decls_symbols, int_symbols, line_symbols, pragmas_symbols, include_symbols, prelude_symbols, function_symbols, text_symbols}
 use Rattle.affc_grammar.specs.Draft as d
-use Rattle.affc_grammar.specs.Draft.{IxDraft, CompareDraft, ValueDraft, LocalDraft, StmtsDraft, StmtDraft, DeclDraft, ParamDraft, PragmaDraft, TextDraft, ix_draft, term_draft, factor_draft, atom_draft, dims_draft, conds_draft, cond_draft, value_draft, locals_draft, stmts_draft, stmt_draft, simple_draft, body_draft, param_draft, params_draft, names_draft, decls_draft, pragmas_draft, text_draft}
+use Rattle.affc_grammar.specs.Draft.{IxDraft, CompareDraft, CondsDraft, CondDraft, ValueDraft, LocalDraft, StmtsDraft, StmtDraft, DeclDraft, ParamDraft, PragmaDraft, TextDraft, ix_draft, term_draft, factor_draft, atom_draft, dims_draft, and_conds, conjuncts, disjuncts, cond_draft, all_draft, prim_draft, comparison_in, comparisons_of, comparisons_in, value_draft, locals_draft, stmts_draft, stmt_draft, simple_draft, body_draft, param_draft, params_draft, names_draft, decls_draft, pragmas_draft, text_draft}
 
 -- ---- Sizes: the nodes of the tree, and one for each array
 
@@ -22,6 +22,17 @@ ix_size (d.divided at f a by_at by) = 1 + ix_size a
 
 abbrev pub compare_size : CompareDraft → ℕ
 compare_size c = 1 + ix_size c.left + ix_size c.right
+
+abbrev mutual
+  pub conds_size : CondsDraft → ℕ
+  conds_size d.no_conds = 0
+  conds_size (d.and_cond cs c) = conds_size cs + cond_size c
+
+  pub cond_size : CondDraft → ℕ
+  cond_size (d.comparison c) = compare_size c
+  cond_size (d.divisible a by_at by so) = 1 + ix_size a
+  cond_size (d.all_of cs) = 1 + conds_size cs
+  cond_size (d.any_of cs) = 1 + conds_size cs
 
 abbrev pub value_size : ValueDraft → ℕ
 value_size (d.load at w subs) = 1 + sum_by ix_size subs
@@ -41,7 +52,7 @@ abbrev mutual
 
   pub stmt_size : StmtDraft → ℕ
   stmt_size (d.for_loop h body) = 1 + ix_size h.low + ix_size h.high + stmts_size body
-  stmt_size (d.if_all at cs body) = 1 + sum_by compare_size cs + stmts_size body
+  stmt_size (d.if_cond at c body other) = 1 + cond_size c + stmts_size body + stmts_size other
   stmt_size (d.assign w subs op v) = 1 + sum_by ix_size subs + value_size v
   stmt_size (d.block ls body) = 1 + sum_by local_size ls + stmts_size body
 
@@ -96,20 +107,71 @@ dims_fit at (g.and_dim ds a) =
     let q = ix_fits (at + length (dims_symbols ds) + 1) a in
     omega (arith, last_more ix_size (dims_draft at ds) (ix_draft (at + length (dims_symbols ds) + 1) a), length-append {A = Symbol})
 
-mutual
-  conds_fit : {prelude : Bool} (at : ℕ) (cs : CondsText prelude) → sum_by compare_size (conds_draft at cs) ≤ length (conds_symbols cs)
-  conds_fit at (g.cond c) = cond_fits at c
-  conds_fit at (g.and_cond cs c) =
-      let p = conds_fit at cs in
-      let q = cond_fits (at + length (conds_symbols cs) + 1) c in
-      omega (arith, sum_by-append compare_size (conds_draft at cs) (cond_draft (at + length (conds_symbols cs) + 1) c), length-append {A = Symbol})
+joined_size : (cs ds : CondsDraft) → conds_size (and_conds cs ds) ≡ conds_size cs + conds_size ds
+joined_size cs d.no_conds = omega arith
+joined_size cs (d.and_cond ds c) = let p = joined_size cs ds in omega arith
 
-  cond_fits : {prelude : Bool} (at : ℕ) (c : CondText prelude) → sum_by compare_size (cond_draft at c) ≤ length (cond_symbols c)
-  cond_fits at (g.all_of cs) = let p = conds_fit (at + 1) cs in omega (arith, length-append {A = Symbol})
-  cond_fits at (g.compared a rel b) =
+conjuncts_size : (c : CondDraft) → conds_size (conjuncts c) ≤ cond_size c
+conjuncts_size (d.comparison c) = omega arith
+conjuncts_size (d.divisible a by_at by so) = omega arith
+conjuncts_size (d.all_of cs) = omega arith
+conjuncts_size (d.any_of cs) = omega arith
+
+disjuncts_size : (c : CondDraft) → conds_size (disjuncts c) ≤ cond_size c
+disjuncts_size (d.comparison c) = omega arith
+disjuncts_size (d.divisible a by_at by so) = omega arith
+disjuncts_size (d.all_of cs) = omega arith
+disjuncts_size (d.any_of cs) = omega arith
+
+mutual
+  cond_fits : {prelude wide : Bool} (at : ℕ) (c : CondText prelude wide) → cond_size (cond_draft at c) ≤ length (cond_symbols c)
+  cond_fits at (g.all_of a) = all_fits at a
+  cond_fits at (g.or_all _ c a) =
+      let next = at + length (cond_symbols c) + 1 in
+      let p = cond_fits at c in
+      let q = all_fits next a in
+      let j = joined_size (disjuncts (cond_draft at c)) (disjuncts (all_draft next a)) in
+      let k = disjuncts_size (cond_draft at c) in
+      let l = disjuncts_size (all_draft next a) in
+      omega (arith, length-append {A = Symbol})
+
+  all_fits : {prelude wide : Bool} (at : ℕ) (a : AllText prelude wide) → cond_size (all_draft at a) ≤ length (all_symbols a)
+  all_fits at (g.prim q) = prim_fits at q
+  all_fits at (g.and_prim a q) =
+      let next = at + length (all_symbols a) + 1 in
+      let p = all_fits at a in
+      let r = prim_fits next q in
+      let j = joined_size (conjuncts (all_draft at a)) (conjuncts (prim_draft next q)) in
+      let k = conjuncts_size (all_draft at a) in
+      let l = conjuncts_size (prim_draft next q) in
+      omega (arith, length-append {A = Symbol})
+
+  prim_fits : {prelude wide : Bool} (at : ℕ) (q : PrimText prelude wide) → cond_size (prim_draft at q) ≤ length (prim_symbols q)
+  prim_fits at (g.enclosed c) = let p = cond_fits (at + 1) c in omega (arith, length-append {A = Symbol})
+  prim_fits at (g.compared a rel _ b) =
       let p = ix_fits at a in
       let q = ix_fits (at + length (ix_symbols a) + 1) b in
-      omega (arith, alone compare_size (record { rel = rel; left = ix_draft at a; right = ix_draft (at + length (ix_symbols a) + 1) b }), length-append {A = Symbol})
+      omega (arith, length-append {A = Symbol})
+  prim_fits at (g.divisible _ t by _ so) = let p = term_fits at t in omega (arith, length-append {A = Symbol})
+
+comparison_fits : (c : CondDraft) → sum_by compare_size (comparison_in c) ≤ cond_size c
+comparison_fits (d.comparison c) = let p = alone compare_size c in omega arith
+comparison_fits (d.divisible a by_at by so) = omega arith
+comparison_fits (d.all_of cs) = omega arith
+comparison_fits (d.any_of cs) = omega arith
+
+all_fit : (cs : CondsDraft) → sum_by compare_size (comparisons_of cs) ≤ conds_size cs
+all_fit d.no_conds = omega arith
+all_fit (d.and_cond cs c) =
+    let p = all_fit cs in
+    let q = comparison_fits c in
+    omega (arith, sum_by-append compare_size (comparisons_of cs) (comparison_in c))
+
+comparisons_fit : (c : CondDraft) → sum_by compare_size (comparisons_in c) ≤ cond_size c
+comparisons_fit c =
+    let p = all_fit (conjuncts c) in
+    let q = conjuncts_size c in
+    omega arith
 
 value_fits : {prelude : Bool} {n : ℕ} (at : ℕ) (v : ValueText prelude n) → value_size (value_draft at v) ≤ length (value_symbols v)
 value_fits at (g.complement v) = let p = value_fits (at + 1) v in omega arith
@@ -138,22 +200,28 @@ mutual
   stmt_fits at (g.simple s) = simple_fits at s
   stmt_fits at (g.block ls ss) = let p = locals_fit (at + 1) ls in let q = stmts_fit (at + 1 + length (locals_symbols ls)) ss in omega (arith, length-append {A = Symbol})
 
-  simple_fits : {prelude : Bool} (at : ℕ) (s : SimpleText prelude) → stmt_size (simple_draft at s) ≤ length (simple_symbols s)
+  simple_fits : {prelude dangles : Bool} (at : ℕ) (s : SimpleText prelude dangles) → stmt_size (simple_draft at s) ≤ length (simple_symbols s)
   simple_fits at (g.for_loop iterator low tested strict high step body) =
       let p = ix_fits (at + 5) low in
       let q = ix_fits (at + 5 + length (ix_symbols low) + 1 + 2) high in
       let r = body_fits (at + d.head_length low high step) body in
       omega (arith, length-append {A = Symbol})
-  simple_fits at (g.if_all cs body) =
-      let p = conds_fit (at + 2) cs in
-      let q = body_fits (at + 2 + length (conds_symbols cs) + 1) body in
+  simple_fits at (g.if_then c body) =
+      let p = cond_fits (at + 2) c in
+      let q = body_fits (at + 2 + length (cond_symbols c) + 1) body in
+      omega (arith, length-append {A = Symbol})
+  simple_fits at (g.if_else c body other) =
+      let body_at = at + 2 + length (cond_symbols c) + 1 in
+      let p = cond_fits (at + 2) c in
+      let q = body_fits body_at body in
+      let r = body_fits (body_at + length (body_symbols body) + 1) other in
       omega (arith, length-append {A = Symbol})
   simple_fits at (g.assign array subs op v) =
       let p = dims_fit (at + 1) subs in
       let q = value_fits (at + 1 + length (dims_symbols subs) + 1) v in
       omega (arith, length-append {A = Symbol})
 
-  body_fits : {prelude : Bool} (at : ℕ) (b : BodyText prelude) → stmts_size (body_draft at b) ≤ length (body_symbols b)
+  body_fits : {prelude dangles : Bool} (at : ℕ) (b : BodyText prelude dangles) → stmts_size (body_draft at b) ≤ length (body_symbols b)
   body_fits at (g.braces ss) = let p = stmts_fit (at + 1) ss in omega (arith, length-append {A = Symbol})
   body_fits at (g.bare s) = let p = simple_fits at s in omega arith
 
@@ -196,11 +264,12 @@ pragmas_fit at (g.and_range ps w low high line) =
     let next = at + length (pragmas_symbols ps) in
     let p = pragmas_fit at ps in
     omega (arith, last_more pragma_size (pragmas_draft at ps) (d.range (d.word_draft (next + 4) w) (next + 5) (d.int_value low) (d.int_value high)), length-append {A = Symbol})
-pragmas_fit at (g.and_context ps cs line) =
+pragmas_fit at (g.and_context ps c line) =
     let next = at + length (pragmas_symbols ps) in
     let p = pragmas_fit at ps in
-    let q = conds_fit (next + 4) cs in
-    omega (arith, last_more pragma_size (pragmas_draft at ps) (d.context (next + 3) (conds_draft (next + 4) cs)), length-append {A = Symbol})
+    let q = cond_fits (next + 4) c in
+    let r = comparisons_fit (cond_draft (next + 4) c) in
+    omega (arith, last_more pragma_size (pragmas_draft at ps) (d.context (next + 3) (comparisons_in (cond_draft (next + 4) c))), length-append {A = Symbol})
 
 -- a text's draft is no larger than its tokens are many
 pub text_fits : (c : Text) → text_size (text_draft c) ≤ length (text_symbols c)

@@ -7,7 +7,7 @@ use Rattle.std.proofs.lemmas.List.Folds.{list_all-append}
 use Rattle.affc_lex.specs.declared.token.Kind.{Kind}
 use Rattle.affc_lex.specs.declared.token.Kind.TheVariants.{Header, Prelude}
 use Rattle.affc_grammar.specs.Grammar as g
-use Rattle.affc_grammar.specs.Grammar.{Symbol, IxText, TermText, FactorText, AtomText, DimsText, CondsText, CondText, ValueText, StepText, LocalsText, StmtsText, StmtText, SimpleText, BodyText, ParamText, ParamsText, NamesText, DeclsText, FunctionText, IntText, PragmasText, LineText, ix_symbols, term_symbols, factor_symbols, atom_symbols, dim_symbols, dims_symbols, conds_symbols, cond_symbols, value_symbols, step_symbols, locals_symbols, stmts_symbols, stmt_symbols, simple_symbols, body_symbols, const_symbols, param_symbols, params_symbols, names_symbols, decls_symbols, function_symbols, line_symbols, int_symbols, pragmas_symbols}
+use Rattle.affc_grammar.specs.Grammar.{Symbol, IxText, TermText, FactorText, AtomText, DimsText, CondText, AllText, PrimText, ValueText, StepText, LocalsText, StmtsText, StmtText, SimpleText, BodyText, ParamText, ParamsText, NamesText, DeclsText, FunctionText, IntText, PragmasText, LineText, ix_symbols, term_symbols, factor_symbols, atom_symbols, dim_symbols, dims_symbols, cond_symbols, all_symbols, prim_symbols, value_symbols, step_symbols, locals_symbols, stmts_symbols, stmt_symbols, simple_symbols, body_symbols, const_symbols, param_symbols, params_symbols, names_symbols, decls_symbols, function_symbols, line_symbols, int_symbols, pragmas_symbols}
 
 abbrev pub is_ordinary : Kind → Bool
 is_ordinary Header = false
@@ -57,13 +57,18 @@ dims_ordinary g.no_dims = refl
 dims_ordinary (g.and_dim ds a) = on (dims_symbols ds) (dim_symbols a) (dims_ordinary ds) (on (ix_symbols a) _ (ix_ordinary a) refl)
 
 mutual
-  conds_ordinary : {prelude : Bool} (cs : CondsText prelude) → AreOrdinary (conds_symbols cs)
-  conds_ordinary (g.cond c) = cond_ordinary c
-  conds_ordinary (g.and_cond cs c) = on (conds_symbols cs) _ (conds_ordinary cs) (cond_ordinary c)
+  cond_ordinary : {prelude wide : Bool} (c : CondText prelude wide) → AreOrdinary (cond_symbols c)
+  cond_ordinary (g.all_of a) = all_ordinary a
+  cond_ordinary (g.or_all _ c a) = on (cond_symbols c) _ (cond_ordinary c) (all_ordinary a)
 
-  cond_ordinary : {prelude : Bool} (c : CondText prelude) → AreOrdinary (cond_symbols c)
-  cond_ordinary (g.all_of cs) = on (conds_symbols cs) _ (conds_ordinary cs) refl
-  cond_ordinary (g.compared a rel b) = on (ix_symbols a) _ (ix_ordinary a) (ix_ordinary b)
+  all_ordinary : {prelude wide : Bool} (a : AllText prelude wide) → AreOrdinary (all_symbols a)
+  all_ordinary (g.prim q) = prim_ordinary q
+  all_ordinary (g.and_prim a q) = on (all_symbols a) _ (all_ordinary a) (prim_ordinary q)
+
+  prim_ordinary : {prelude wide : Bool} (q : PrimText prelude wide) → AreOrdinary (prim_symbols q)
+  prim_ordinary (g.enclosed c) = on (cond_symbols c) _ (cond_ordinary c) refl
+  prim_ordinary (g.compared a rel _ b) = on (ix_symbols a) _ (ix_ordinary a) (ix_ordinary b)
+  prim_ordinary (g.divisible _ t by _ so) = on (term_symbols t) _ (term_ordinary t) refl
 
 value_ordinary : {prelude : Bool} {n : ℕ} (v : ValueText prelude n) → AreOrdinary (value_symbols v)
 value_ordinary (g.complement v) = value_ordinary v
@@ -93,13 +98,14 @@ mutual
   stmt_ordinary (g.simple s) = simple_ordinary s
   stmt_ordinary (g.block ls ss) = on (locals_symbols ls) _ (locals_ordinary ls) (on (stmts_symbols ss) _ (stmts_ordinary ss) refl)
 
-  simple_ordinary : {prelude : Bool} (s : SimpleText prelude) → AreOrdinary (simple_symbols s)
+  simple_ordinary : {prelude dangles : Bool} (s : SimpleText prelude dangles) → AreOrdinary (simple_symbols s)
   simple_ordinary (g.for_loop iterator low tested strict high step body) =
       on (ix_symbols low) _ (ix_ordinary low) (on (ix_symbols high) _ (ix_ordinary high) (on (step_symbols step) _ (step_ordinary step) (body_ordinary body)))
-  simple_ordinary (g.if_all cs body) = on (conds_symbols cs) _ (conds_ordinary cs) (body_ordinary body)
+  simple_ordinary (g.if_then c body) = on (cond_symbols c) _ (cond_ordinary c) (body_ordinary body)
+  simple_ordinary (g.if_else c body other) = on (cond_symbols c) _ (cond_ordinary c) (on (body_symbols body) _ (body_ordinary body) (body_ordinary other))
   simple_ordinary (g.assign array subs op v) = on (dims_symbols subs) _ (dims_ordinary subs) (on (value_symbols v) _ (value_ordinary v) refl)
 
-  body_ordinary : {prelude : Bool} (b : BodyText prelude) → AreOrdinary (body_symbols b)
+  body_ordinary : {prelude dangles : Bool} (b : BodyText prelude dangles) → AreOrdinary (body_symbols b)
   body_ordinary (g.braces ss) = on (stmts_symbols ss) _ (stmts_ordinary ss) refl
   body_ordinary (g.bare s) = simple_ordinary s
 
@@ -141,4 +147,4 @@ int_ordinary i = by i.negative
 pub pragmas_ordinary : (ps : PragmasText) → AreOrdinary (pragmas_symbols ps)
 pragmas_ordinary g.no_pragmas = refl
 pragmas_ordinary (g.and_range ps w low high line) = on (pragmas_symbols ps) _ (pragmas_ordinary ps) (on (int_symbols low) _ (int_ordinary low) (on (int_symbols high) _ (int_ordinary high) (line_ordinary line)))
-pragmas_ordinary (g.and_context ps cs line) = on (pragmas_symbols ps) _ (pragmas_ordinary ps) (on (conds_symbols cs) _ (conds_ordinary cs) (line_ordinary line))
+pragmas_ordinary (g.and_context ps c line) = on (pragmas_symbols ps) _ (pragmas_ordinary ps) (on (cond_symbols c) _ (cond_ordinary c) (line_ordinary line))

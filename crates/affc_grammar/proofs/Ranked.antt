@@ -21,8 +21,8 @@ use Rattle.affc_ast.specs.Recursion.{by_val, by_stmt}
 use Rattle.affc_ast.specs.Trace.{Assignment, assignments_step, joined}
 use Rattle.affc_grammar.specs.declared.fault.NameWhy.TheVariants.{Reserved, Const, Kind}
 use Rattle.affc_grammar.specs.Grammar.{Name}
-use Rattle.affc_grammar.specs.Draft.{ValueDraft, load, constant, cast, complement, binary, shift, LocalDraft, StmtsDraft, no_stmts, and_stmt, StmtDraft, for_loop, if_all, assign, block, DeclDraft, ParamDraft, number_param, array_param, PragmaDraft}
-use Rattle.affc_grammar.specs.Names.{Thing, function, number, array, Visible, Scope, thing_of, is_number_thing, is_array_thing, with_thing, with_number, with_array, is_refused_word, is_input, first_reason, why_array, why_declared, Checked, allowed, each, array_id, array_named, number_tree, range_of, ix_tree, compare_tree, value_tree, locals_tree, head_tree, stmts_tree, stmt_tree, with_params, decl_tree, param_tree, params_tree, temps_tree}
+use Rattle.affc_grammar.specs.Draft.{ValueDraft, load, constant, cast, complement, binary, shift, LocalDraft, StmtsDraft, no_stmts, and_stmt, StmtDraft, for_loop, if_cond, assign, block, DeclDraft, ParamDraft, number_param, array_param, PragmaDraft}
+use Rattle.affc_grammar.specs.Names.{Thing, function, number, array, Visible, Scope, thing_of, is_number_thing, is_array_thing, with_thing, with_number, with_array, is_refused_word, is_input, first_reason, why_array, why_declared, Checked, allowed, each, array_id, array_named, number_tree, range_of, ix_tree, cond_tree, value_tree, locals_tree, head_tree, stmts_tree, stmt_tree, with_params, decl_tree, param_tree, params_tree, temps_tree}
 use Rattle.affc_grammar.proofs.Steps.{ok_of, then_is, allowed_is, not_here, bin_here, shift_here, for_here, if_here, block_here}
 
 -- ---- What is visible
@@ -179,11 +179,14 @@ module _ (ranks : List ℕ) where
         subst (λ (y : Stmt). AreRanked (by_stmt assignments_step y)) (ok_of q.2)
         (ap (list_all (is_ranked ranks)) (for_here assignments_step d.iterator.name p.0.0 d.rel p.0.1 q.0 ∙ joined_is q.0)
         ∙ stmts_ranked (with_number true scope d.iterator.name) (knows_number scope ranks true d.iterator.name h) body q.0 q.1)
-    stmt_ranked scope h (if_all at cs body) x e =
-        let p = then_is (each (compare_tree scope) cs) _ x e in
+    stmt_ranked scope h (if_cond at c body other) x e =
+        let p = then_is (cond_tree scope c) _ x e in
         let q = then_is (stmts_tree scope body) _ x p.2 in
-        subst (λ (y : Stmt). AreRanked (by_stmt assignments_step y)) (ok_of q.2)
-        (ap (list_all (is_ranked ranks)) (if_here assignments_step p.0 q.0 ∙ joined_is q.0) ∙ stmts_ranked scope h body q.0 q.1)
+        let r = then_is (stmts_tree scope other) _ x q.2 in
+        subst (λ (y : Stmt). AreRanked (by_stmt assignments_step y)) (ok_of r.2)
+        (ap (list_all (is_ranked ranks)) (if_here assignments_step p.0 q.0 r.0 ∙ (λ i. joined_is q.0 i ++ joined_is r.0 i))
+        ∙ list_all-append (is_ranked ranks) (flat_map (by_stmt assignments_step) q.0) (flat_map (by_stmt assignments_step) r.0)
+        ∙ and_from _ _ (stmts_ranked scope h body q.0 q.1) (stmts_ranked scope h other r.0 r.1))
     stmt_ranked scope h (assign w subs op v) x e =
         let p = then_is (array_named scope w.at w.name true (length subs)) _ x e in
         let q = then_is (each (ix_tree scope) subs) _ x p.2 in

@@ -1,6 +1,6 @@
 -- Steps of what a draft reads as, and of a function by one step at a tree.
 use Rattle.std.proofs.Common.{◌≡◌, ℕ, ℤ, List, map, Bool, Option, Some, None, Ok, Err, refl, ap, ◌∙◌, rules, arith}
-use Rattle.affc_ast.specs.declared.tree.Compare.{Compare}
+use Rattle.affc_ast.specs.declared.tree.Cond.{Cond}
 use Rattle.affc_ast.specs.declared.tree.Ix.{Ix, out-Ix, map-Ix, the_lemmas as ix_lemmas}
 use Rattle.affc_ast.specs.declared.tree.Ix.TheVariants as ix
 use Rattle.affc_ast.specs.declared.tree.Ix.TheOpen as layer_ix
@@ -121,10 +121,10 @@ module _ {A : Type 0} (f : Stmt-F A → A) where
       row : map-Stmt Stmt A (by_stmt f) (out-Stmt (stmt.For iter low rel high body)) ≡ layer.For iter low rel high (map (by_stmt f) body)
       row = first_of (simp stmt_lemmas, grind (arith, stmt_lemmas), search (rules, stmt_lemmas))
 
-  pub if_here : (conds : List Compare) (body : List Stmt) → by_stmt f (stmt.If conds body) ≡ f (layer.If conds (map (by_stmt f) body))
-  if_here conds body = by_stmt_out f (stmt.If conds body) ∙ ap f row
+  pub if_here : (cond : Cond) (body other : List Stmt) → by_stmt f (stmt.If cond body other) ≡ f (layer.If cond (map (by_stmt f) body) (map (by_stmt f) other))
+  if_here cond body other = by_stmt_out f (stmt.If cond body other) ∙ ap f row
     where
-      row : map-Stmt Stmt A (by_stmt f) (out-Stmt (stmt.If conds body)) ≡ layer.If conds (map (by_stmt f) body)
+      row : map-Stmt Stmt A (by_stmt f) (out-Stmt (stmt.If cond body other)) ≡ layer.If cond (map (by_stmt f) body) (map (by_stmt f) other)
       row = first_of (simp stmt_lemmas, grind (arith, stmt_lemmas), search (rules, stmt_lemmas))
 
   pub block_here : (locals : List Local) (body : List Stmt) → by_stmt f (stmt.Block locals body) ≡ f (layer.Block locals (map (by_stmt f) body))

@@ -1,5 +1,5 @@
 -- The tests of one token: what passes is spelled so.
-use Rattle.std.proofs.Common.{◌≡◌, ℕ, suc, Bool, true, false, ◌==◌, List, [], ◌∷◌, Option, Some, None, refl, sym, ap, ◌∙◌, codes, IsTrue, cond}
+use Rattle.std.proofs.Common.{◌≡◌, ℕ, suc, Bool, true, false, ◌||◌, ◌==◌, List, [], ◌∷◌, Option, Some, None, refl, sym, ap, ◌∙◌, codes, IsTrue, cond}
 use mathlib.Core.Bool.{Bool-set}
 use Rattle.std.proofs.lemmas.Bool.{eqb-true, eq-eqb, and_parts, and_from}
 use Rattle.affc_lex.specs.declared.token.Kind.{Kind}
@@ -9,9 +9,11 @@ use Rattle.affc_lex.specs.Lexes.{is_hash, is_line_end}
 use Rattle.affc_lex.specs.Pieces.{prelude}
 use Rattle.affc_ast.specs.declared.tree.Op.{Op}
 use Rattle.affc_ast.specs.declared.tree.Op.TheVariants.{Add, Sub, Mul, And, Or, Xor}
-use Rattle.affc_ast.specs.declared.tree.Rel.TheVariants.{Less, LessEqual, Greater, GreaterEqual, Equal}
-use Rattle.affc_grammar.specs.Grammar.{Symbol, Name, LineText, line_feed, text_end, minimum, maximum, remainder, down, up, word, number, mark, is_word_kind, is_mark_kind, is_divisor, is_shift, op_mark, rel_mark, shift_mark, bound_mark, assign_mark, level_of}
-use Rattle.affc_grammar.specs.Reading.{choose, the_bytes, of_kind, this_mark, this_word, any_word, any_number, any_value, is_number_kind, is_value_kind, is_header_kind, is_prelude_kind, hash, header, the_prelude, line_end, holding, with_proof, divisor, shift_number, Callee, of_choice, of_rounding, callee_name, callees, sum_sign, rel_of, ops, at_level, op_of, shift_sign, one, bound_of, assign_of, head_words, First, a_word, a_brace, first_of, brace_or_none, word_or}
+use Rattle.affc_ast.specs.declared.tree.Rel.{Rel}
+use Rattle.affc_ast.specs.declared.tree.Rel.TheVariants.{Less, LessEqual, Greater, GreaterEqual, Equal, NotEqual}
+use Rattle.affc_ast.specs.Joined.{is_ordered}
+use Rattle.affc_grammar.specs.Grammar.{Symbol, Name, LineText, line_feed, text_end, minimum, maximum, remainder, down, up, word, number, mark, is_word_kind, is_mark_kind, is_divisor, is_shift, op_mark, rel_mark, shift_mark, bound_mark, zero_mark, assign_mark, level_of}
+use Rattle.affc_grammar.specs.Reading.{choose, the_bytes, of_kind, this_mark, this_word, any_word, any_number, any_value, is_number_kind, is_value_kind, is_header_kind, is_prelude_kind, hash, header, the_prelude, line_end, holding, with_proof, divisor, shift_number, Callee, of_choice, of_rounding, callee_name, callees, sum_sign, rels, at_width, rel_of, zero_sign, zero_number, ops, at_level, op_of, shift_sign, one, bound_of, assign_of, head_words, First, a_word, a_brace, first_of, brace_or_none, word_or}
 use Rattle.affc_grammar.proofs.Rule.{IsTest}
 
 pub same_bytes : (xs ys : List ℕ) → same xs ys ≡ true → xs ≡ ys
@@ -197,10 +199,8 @@ shift_test = mark_table ((codes "<<", true) ∷ (codes ">>", false) ∷ []) shif
 pub bound_test : IsTest bound_of (λ b. mark (bound_mark b))
 bound_test = mark_table ((codes "<", true) ∷ (codes "<=", false) ∷ []) bound_mark (refl, (refl, tt)) (elim [ true ↦ refl | false ↦ refl ])
 
-pub rel_test : IsTest rel_of (λ rel. mark (rel_mark rel))
-rel_test =
-    mark_table ((codes "<", Less) ∷ (codes "<=", LessEqual) ∷ (codes ">", Greater) ∷ (codes ">=", GreaterEqual) ∷ (codes "==", Equal) ∷ []) rel_mark (refl, (refl, (refl, (refl, (refl, tt)))))
-    (elim [ Less ↦ refl | LessEqual ↦ refl | Greater ↦ refl | GreaterEqual ↦ refl | Equal ↦ refl ])
+pub zero_test : IsTest zero_sign (λ b. mark (zero_mark b))
+zero_test = mark_table ((codes "==", true) ∷ (codes "!=", false) ∷ []) zero_mark (refl, (refl, tt)) (elim [ true ↦ refl | false ↦ refl ])
 
 assign_passes : (op : Option Op) → choose ((codes "=", None) ∷ (codes "+=", Some Add) ∷ (codes "-=", Some Sub) ∷ (codes "*=", Some Mul) ∷ (codes "&=", Some And) ∷ (codes "|=", Some Or) ∷ (codes "^=", Some Xor) ∷ []) (assign_mark op) ≡ Some op
 assign_passes None = refl
@@ -218,6 +218,9 @@ assign_test =
 
 pub one_test : IsTest one (λ _. number (codes "1"))
 one_test = kind_test is_number_kind Number (the_bytes (codes "1")) (λ _. codes "1") number_kind refl (chosen_bytes (λ _. codes "1") ((codes "1", tt) ∷ []) (refl, tt)) (λ _. refl)
+
+pub zero_number_test : IsTest zero_number (λ _. number (codes "0"))
+zero_number_test = kind_test is_number_kind Number (the_bytes (codes "0")) (λ _. codes "0") number_kind refl (chosen_bytes (λ _. codes "0") ((codes "0", tt) ∷ []) (refl, tt)) (λ _. refl)
 
 -- ---- With a proof
 
@@ -267,6 +270,30 @@ op_test n =
     kind_test is_mark_kind Mark (λ bytes. at_level n (choose ops bytes)) (λ k. op_mark k.0) mark_kind refl
     (λ bytes k e. op_is n bytes (choose ops bytes) refl k e)
     (λ k. ap (at_level n) (ops_pass k.0) ∙ ap (λ o. with_proof k.0 o) (holding_is (level_of k.0 == suc n) k.1))
+
+rels_pass : (rel : Rel) → choose rels (rel_mark rel) ≡ Some rel
+rels_pass Less = refl
+rels_pass LessEqual = refl
+rels_pass Greater = refl
+rels_pass GreaterEqual = refl
+rels_pass Equal = refl
+rels_pass NotEqual = refl
+
+rel_is : (wide : Bool) (bytes : List ℕ) (o : Option Rel) → choose rels bytes ≡ o → (k : (rel : Rel) × IsTrue (wide || is_ordered rel)) → at_width wide o ≡ Some k → bytes ≡ rel_mark k.0
+rel_is wide bytes None q k e = absurd (cc)
+rel_is wide bytes (Some rel) q k e = chosen_bytes rel_mark rels (refl, (refl, (refl, (refl, (refl, (refl, tt)))))) bytes rel q ∙ same_rel (holding (wide || is_ordered rel)) e
+  where
+    same_rel : (o : Option (IsTrue (wide || is_ordered rel))) → with_proof rel o ≡ Some k → rel_mark rel ≡ rel_mark k.0
+    same_rel None h = absurd (cc)
+    same_rel (Some proof) h =
+        let it : ◌≡◌ {A = (rel : Rel) × IsTrue (wide || is_ordered rel)} (rel, proof) k = cc in
+        ap (λ p. rel_mark p.0) it
+
+pub rel_test : (wide : Bool) → IsTest (rel_of wide) (λ k. mark (rel_mark k.0))
+rel_test wide =
+    kind_test is_mark_kind Mark (λ bytes. at_width wide (choose rels bytes)) (λ k. rel_mark k.0) mark_kind refl
+    (λ bytes k e. rel_is wide bytes (choose rels bytes) refl k e)
+    (λ k. ap (at_width wide) (rels_pass k.0) ∙ ap (λ o. with_proof k.0 o) (holding_is (wide || is_ordered k.0) k.1))
 
 abbrev pub first_symbol : First → Symbol
 first_symbol (a_word w) = word w

@@ -1,21 +1,24 @@
 -- A tree has no more nodes, arrays and assignments than its draft's size says.
-use Rattle.std.proofs.Common.{◌≡◌, ℕ, ◌+◌, ◌≤◌, ℤ, pos, true, false, List, [], ◌∷◌, ◌++◌, length, map, Ok, sym, ap, subst, arith}
+use Rattle.std.proofs.Common.{◌≡◌, ℕ, ◌+◌, ◌≤◌, ℤ, pos, true, false, List, [], ◌∷◌, ◌++◌, length, map, Ok, sym, ap, ◌∙◌, subst, arith}
 use Rattle.std.specs.Prelude.{sum_by}
 use Rattle.std.proofs.lemmas.List.{map-append}
 use Rattle.std.proofs.lemmas.List.Sums.{sum_by-cons, sum_by-append}
 use Rattle.affc_ast.specs.declared.tree.Compare.{Compare}
+use Rattle.affc_ast.specs.declared.tree.Cond.{Cond}
 use Rattle.affc_ast.specs.declared.tree.Ix.{Ix}
 use Rattle.affc_ast.specs.declared.tree.Ix.TheVariants as ix
 use Rattle.affc_ast.specs.declared.tree.Local.{Local}
 use Rattle.affc_ast.specs.declared.tree.Val.{Val}
 use Rattle.affc_ast.specs.declared.tree.Stmt.{Stmt}
+use Rattle.affc_ast.specs.Conditions.{Reading, nodes_of_entries, reading_step, reading_of, nodes_of_cond}
 use Rattle.affc_ast.specs.Index.{Index, index_step, nodes_of_ix, nodes_of_compare}
 use Rattle.affc_ast.specs.Values.{Value, value_step, value_of}
 use Rattle.affc_ast.specs.Meaning.{Denotation, stmt_step, denotation_of, nodes_in, assigns_in, nodes_of_locals}
 use Rattle.affc_grammar.specs.Grammar.{Choice, minimum, maximum, remainder, Rounding, down, up}
-use Rattle.affc_grammar.specs.Draft.{IxDraft, literal, name, negated, sum, difference, product, grouped, chosen, divided, CompareDraft, ValueDraft, load, constant, cast, complement, binary, shift, LocalDraft, StmtsDraft, no_stmts, and_stmt, StmtDraft, for_loop, if_all, assign, block}
-use Rattle.affc_grammar.specs.Names.{Scope, Checked, each, choice_tree, rounding_tree, number_named, array_named, ix_tree, compare_tree, value_tree, locals_tree, head_tree, stmts_tree, stmt_tree, why_declared, why_repeated, with_number}
-use Rattle.affc_grammar.proofs.DraftSizes.{ix_size, compare_size, value_size, local_size, stmts_size, stmt_size}
+use Rattle.affc_grammar.specs.Draft.{IxDraft, literal, name, negated, sum, difference, product, grouped, chosen, divided, CompareDraft, CondsDraft, no_conds, and_cond, CondDraft, comparison, divisible, all_of, any_of, ValueDraft, load, constant, cast, complement, binary, shift, LocalDraft, StmtsDraft, no_stmts, and_stmt, StmtDraft, for_loop, if_cond, assign, block}
+use Rattle.affc_grammar.specs.Names.{Scope, Checked, each, choice_tree, rounding_tree, number_named, array_named, ix_tree, compare_tree, conds_tree, cond_tree, value_tree, locals_tree, head_tree, stmts_tree, stmt_tree, why_declared, why_repeated, with_number}
+use Rattle.affc_ast.proofs.Steps.{all_here, any_here}
+use Rattle.affc_grammar.proofs.DraftSizes.{ix_size, compare_size, conds_size, cond_size, value_size, local_size, stmts_size, stmt_size}
 use Rattle.affc_grammar.proofs.Steps.{ok_of, then_is, allowed_is, neg_here, add_here, sub_here, mul_here, min_here, max_here, mod_here, floord_here, ceild_here, not_here, bin_here, shift_here, for_here, if_here, block_here}
 
 -- ---- Index expressions
@@ -102,6 +105,47 @@ compare_nodes scope c x e =
 pub compares_nodes : (scope : Scope) (cs : List CompareDraft) (xs : List Compare) → each (compare_tree scope) cs ≡ Ok xs → sum_by nodes_of_compare xs ≤ sum_by compare_size cs
 compares_nodes scope = each_sum (compare_tree scope) compare_size nodes_of_compare (compare_nodes scope)
 
+-- ---- Conditions
+
+entries_more : (xs : List Cond) (x : Cond) → nodes_of_entries (map reading_of (xs ++ x ∷ [])) ≡ nodes_of_entries (map reading_of xs) + nodes_of_cond x
+entries_more xs x =
+    ap nodes_of_entries (map-append reading_of xs (x ∷ []))
+    ∙ sum_by-append (λ (r : Reading). r.nodes) (map reading_of xs) (reading_of x ∷ [])
+    ∙ ap (λ n. nodes_of_entries (map reading_of xs) + n) (alone_nodes (reading_of x))
+  where
+    alone_nodes : (r : Reading) → nodes_of_entries (r ∷ []) ≡ r.nodes
+    alone_nodes r = omega (arith, sum_by-cons (λ (r : Reading). r.nodes) r [])
+
+mutual
+  conds_nodes : (scope : Scope) (cs : CondsDraft) (xs : List Cond) → conds_tree scope cs ≡ Ok xs → nodes_of_entries (map reading_of xs) ≤ conds_size cs
+  conds_nodes scope no_conds xs e = subst (λ (l : List Cond). nodes_of_entries (map reading_of l) ≤ 0) (ok_of e) (omega arith)
+  conds_nodes scope (and_cond cs c) xs e =
+      let p = then_is (conds_tree scope cs) _ xs e in
+      let q = then_is (cond_tree scope c) _ xs p.2 in
+      let h = conds_nodes scope cs p.0 p.1 in
+      let k = cond_nodes scope c q.0 q.1 in
+      subst (λ (l : List Cond). nodes_of_entries (map reading_of l) ≤ conds_size cs + cond_size c) (ok_of q.2) (omega (arith, h, k, entries_more p.0 q.0))
+
+  cond_nodes : (scope : Scope) (c : CondDraft) (x : Cond) → cond_tree scope c ≡ Ok x → nodes_of_cond x ≤ cond_size c
+  cond_nodes scope (comparison c) x e =
+      let p = then_is (ix_tree scope c.left) _ x e in
+      let q = then_is (ix_tree scope c.right) _ x p.2 in
+      let h = ix_nodes scope c.left p.0 p.1 in
+      let k = ix_nodes scope c.right q.0 q.1 in
+      subst (λ (y : Cond). nodes_of_cond y ≤ compare_size c) (ok_of q.2) (omega arith)
+  cond_nodes scope (divisible a by_at by so) x e =
+      let p = then_is (ix_tree scope a) _ x e in
+      let h = ix_nodes scope a p.0 p.1 in
+      subst (λ (y : Cond). nodes_of_cond y ≤ 1 + ix_size a) (ok_of p.2) (omega arith)
+  cond_nodes scope (all_of cs) x e =
+      let p = then_is (conds_tree scope cs) _ x e in
+      let h = conds_nodes scope cs p.0 p.1 in
+      subst (λ (y : Cond). nodes_of_cond y ≤ 1 + conds_size cs) (ok_of p.2) (omega (arith, h, ap (λ (r : Reading). r.nodes) (all_here reading_step p.0)))
+  cond_nodes scope (any_of cs) x e =
+      let p = then_is (conds_tree scope cs) _ x e in
+      let h = conds_nodes scope cs p.0 p.1 in
+      subst (λ (y : Cond). nodes_of_cond y ≤ 1 + conds_size cs) (ok_of p.2) (omega (arith, h, ap (λ (r : Reading). r.nodes) (any_here reading_step p.0)))
+
 -- ---- Values
 
 value_nodes : (scope : Scope) (c : ValueDraft) (x : Val) → value_tree scope c ≡ Ok x → (value_of x).nodes ≤ value_size c
@@ -184,14 +228,16 @@ mutual
       let here = for_here stmt_step h.iterator.name p.0.0 h.rel p.0.1 q.0 in
       subst (λ (y : Stmt). HasOne (stmt_size (for_loop h body)) (denotation_of y)) (ok_of q.2)
       (omega (arith, m, n, first, last, k.0, ap (λ (a : Denotation). a.nodes) here), omega (arith, k.1, ap (λ (a : Denotation). a.assigns) here))
-  stmt_has scope (if_all at cs body) x e =
-      let p = then_is (each (compare_tree scope) cs) _ x e in
+  stmt_has scope (if_cond at c body other) x e =
+      let p = then_is (cond_tree scope c) _ x e in
       let q = then_is (stmts_tree scope body) _ x p.2 in
-      let m = compares_nodes scope cs p.0 p.1 in
+      let r = then_is (stmts_tree scope other) _ x q.2 in
+      let m = cond_nodes scope c p.0 p.1 in
       let k = stmts_has scope body q.0 q.1 in
-      let here = if_here stmt_step p.0 q.0 in
-      subst (λ (y : Stmt). HasOne (stmt_size (if_all at cs body)) (denotation_of y)) (ok_of q.2)
-      (omega (arith, m, k.0, ap (λ (a : Denotation). a.nodes) here), omega (arith, k.1, ap (λ (a : Denotation). a.assigns) here))
+      let l = stmts_has scope other r.0 r.1 in
+      let here = if_here stmt_step p.0 q.0 r.0 in
+      subst (λ (y : Stmt). HasOne (stmt_size (if_cond at c body other)) (denotation_of y)) (ok_of r.2)
+      (omega (arith, m, k.0, l.0, ap (λ (a : Denotation). a.nodes) here), omega (arith, k.1, l.1, ap (λ (a : Denotation). a.assigns) here))
   stmt_has scope (assign w subs op v) x e =
       let p = then_is (array_named scope w.at w.name true (length subs)) _ x e in
       let q = then_is (each (ix_tree scope) subs) _ x p.2 in

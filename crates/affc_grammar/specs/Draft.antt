@@ -9,7 +9,7 @@ use Rattle.affc_ast.specs.declared.tree.Rel.TheVariants.{Less, LessEqual}
 use Rattle.affc_ast.specs.declared.tree.Role.{Role}
 use Rattle.affc_ast.specs.declared.tree.Role.TheVariants.{Input, Output, Temp}
 use Rattle.affc_grammar.specs.Grammar as g
-use Rattle.affc_grammar.specs.Grammar.{Name, Choice, Rounding, IxText, TermText, FactorText, AtomText, DimsText, CondsText, CondText, ValueText, StepText, LocalsText, StmtsText, StmtText, SimpleText, BodyText, ParamText, ParamsText, NamesText, DeclsText, FunctionText, IntText, PragmasText, Text, ix_symbols, term_symbols, dims_symbols, dim_symbols, conds_symbols, value_symbols, step_symbols, locals_symbols, stmts_symbols, const_symbols, params_symbols, names_symbols, decls_symbols, pragmas_symbols, int_symbols, include_symbols, prelude_symbols}
+use Rattle.affc_grammar.specs.Grammar.{Name, Choice, Rounding, IxText, TermText, FactorText, AtomText, DimsText, CondText, AllText, PrimText, ValueText, StepText, LocalsText, StmtsText, StmtText, SimpleText, BodyText, ParamText, ParamsText, NamesText, DeclsText, FunctionText, IntText, PragmasText, Text, ix_symbols, term_symbols, dims_symbols, dim_symbols, cond_symbols, all_symbols, value_symbols, step_symbols, locals_symbols, stmts_symbols, body_symbols, const_symbols, params_symbols, names_symbols, decls_symbols, pragmas_symbols, int_symbols, include_symbols, prelude_symbols}
 
 pub data IxDraft : Type 0 where
   literal : (at : ℕ) → ℕ → IxDraft
@@ -28,6 +28,19 @@ pub record CompareDraft : Type 0 where
   pub rel : Rel
   pub left : IxDraft
   pub right : IxDraft
+
+mutual
+  pub data CondsDraft : Type 0 where
+    no_conds : CondsDraft
+    and_cond : CondsDraft → CondDraft → CondsDraft
+
+  -- joined by "&&" or by "||" are at least two, none of which is joined by the same
+  pub data CondDraft : Type 0 where
+    comparison : CompareDraft → CondDraft
+    -- `by_at` is the number of the Number
+    divisible : IxDraft → (by_at : ℕ) → (by : ℕ) → (so : Bool) → CondDraft
+    all_of : CondsDraft → CondDraft
+    any_of : CondsDraft → CondDraft
 
 pub data ValueDraft : Type 0 where
   load : (at : ℕ) → Name → List IxDraft → ValueDraft
@@ -64,7 +77,8 @@ mutual
 
   pub data StmtDraft : Type 0 where
     for_loop : HeadDraft → StmtsDraft → StmtDraft
-    if_all : (at : ℕ) → List CompareDraft → StmtsDraft → StmtDraft
+    -- `other` is empty where no `else` follows
+    if_cond : (at : ℕ) → CondDraft → (body other : StmtsDraft) → StmtDraft
     assign : WordDraft → List IxDraft → Option Op → ValueDraft → StmtDraft
     block : List LocalDraft → StmtsDraft → StmtDraft
 
@@ -118,15 +132,49 @@ abbrev pub dims_draft : {prelude : Bool} → ℕ → DimsText prelude → List I
 dims_draft at g.no_dims = []
 dims_draft at (g.and_dim ds a) = dims_draft at ds ++ ix_draft (at + length (dims_symbols ds) + 1) a ∷ []
 
--- conditions in parentheses become part of the one list
-abbrev mutual
-  pub conds_draft : {prelude : Bool} → ℕ → CondsText prelude → List CompareDraft
-  conds_draft at (g.cond c) = cond_draft at c
-  conds_draft at (g.and_cond cs c) = conds_draft at cs ++ cond_draft (at + length (conds_symbols cs) + 1) c
+-- ---- Conditions: what is joined in parentheses becomes part of a list that is joined by the same
 
-  pub cond_draft : {prelude : Bool} → ℕ → CondText prelude → List CompareDraft
-  cond_draft at (g.all_of cs) = conds_draft (at + 1) cs
-  cond_draft at (g.compared a rel b) = record { rel = rel; left = ix_draft at a; right = ix_draft (at + length (ix_symbols a) + 1) b } ∷ []
+abbrev pub and_conds : CondsDraft → CondsDraft → CondsDraft
+and_conds cs no_conds = cs
+and_conds cs (and_cond ds d) = and_cond (and_conds cs ds) d
+
+abbrev pub alone : CondDraft → CondsDraft
+alone c = and_cond no_conds c
+
+-- what is joined by "&&", and by "||"
+abbrev pub conjuncts : CondDraft → CondsDraft
+conjuncts (all_of cs) = cs
+conjuncts c = alone c
+
+abbrev pub disjuncts : CondDraft → CondsDraft
+disjuncts (any_of cs) = cs
+disjuncts c = alone c
+
+abbrev mutual
+  pub cond_draft : {prelude wide : Bool} → ℕ → CondText prelude wide → CondDraft
+  cond_draft at (g.all_of a) = all_draft at a
+  cond_draft at (g.or_all _ c a) = any_of (and_conds (disjuncts (cond_draft at c)) (disjuncts (all_draft (at + length (cond_symbols c) + 1) a)))
+
+  pub all_draft : {prelude wide : Bool} → ℕ → AllText prelude wide → CondDraft
+  all_draft at (g.prim q) = prim_draft at q
+  all_draft at (g.and_prim a q) = all_of (and_conds (conjuncts (all_draft at a)) (conjuncts (prim_draft (at + length (all_symbols a) + 1) q)))
+
+  pub prim_draft : {prelude wide : Bool} → ℕ → PrimText prelude wide → CondDraft
+  prim_draft at (g.enclosed c) = cond_draft (at + 1) c
+  prim_draft at (g.compared a rel _ b) = comparison (record { rel = rel; left = ix_draft at a; right = ix_draft (at + length (ix_symbols a) + 1) b })
+  prim_draft at (g.divisible _ t by _ so) = divisible (term_draft at t) (at + length (term_symbols t) + 1) (decimal by) so
+
+abbrev pub comparison_in : CondDraft → List CompareDraft
+comparison_in (comparison c) = c ∷ []
+comparison_in _ = []
+
+abbrev pub comparisons_of : CondsDraft → List CompareDraft
+comparisons_of no_conds = []
+comparisons_of (and_cond cs c) = comparisons_of cs ++ comparison_in c
+
+-- the comparisons of a `context` line, which are joined by "&&"
+abbrev pub comparisons_in : CondDraft → List CompareDraft
+comparisons_in c = comparisons_of (conjuncts c)
 
 abbrev pub value_draft : {prelude : Bool} {n : ℕ} → ℕ → ValueText prelude n → ValueDraft
 value_draft at (g.complement v) = complement (value_draft (at + 1) v)
@@ -183,12 +231,15 @@ abbrev mutual
   stmt_draft at (g.simple s) = simple_draft at s
   stmt_draft at (g.block ls ss) = block (locals_draft (at + 1) ls) (stmts_draft (at + 1 + length (locals_symbols ls)) ss)
 
-  pub simple_draft : {prelude : Bool} → ℕ → SimpleText prelude → StmtDraft
+  pub simple_draft : {prelude dangles : Bool} → ℕ → SimpleText prelude dangles → StmtDraft
   simple_draft at (g.for_loop iterator low tested strict high step body) = for_loop (head_draft at iterator low tested strict high step) (body_draft (at + head_length low high step) body)
-  simple_draft at (g.if_all cs body) = if_all at (conds_draft (at + 2) cs) (body_draft (at + 2 + length (conds_symbols cs) + 1) body)
+  simple_draft at (g.if_then c body) = if_cond at (cond_draft (at + 2) c) (body_draft (at + 2 + length (cond_symbols c) + 1) body) no_stmts
+  simple_draft at (g.if_else c body other) =
+      let body_at = at + 2 + length (cond_symbols c) + 1 in
+      if_cond at (cond_draft (at + 2) c) (body_draft body_at body) (body_draft (body_at + length (body_symbols body) + 1) other)
   simple_draft at (g.assign array subs op v) = assign (word_draft at array) (dims_draft (at + 1) subs) op (value_draft (at + 1 + length (dims_symbols subs) + 1) v)
 
-  pub body_draft : {prelude : Bool} → ℕ → BodyText prelude → StmtsDraft
+  pub body_draft : {prelude dangles : Bool} → ℕ → BodyText prelude dangles → StmtsDraft
   body_draft at (g.braces ss) = stmts_draft (at + 1) ss
   body_draft at (g.bare s) = and_stmt no_stmts (simple_draft at s)
 
@@ -227,7 +278,7 @@ pragmas_draft at (g.and_range ps w low high line) =
     pragmas_draft at ps ++ range (word_draft (next + 4) w) (next + 5) (int_value low) (int_value high) ∷ []
 pragmas_draft at (g.and_context ps cs line) =
     let next = at + length (pragmas_symbols ps) in
-    pragmas_draft at ps ++ context (next + 3) (conds_draft (next + 4) cs) ∷ []
+    pragmas_draft at ps ++ context (next + 3) (comparisons_in (cond_draft (next + 4) cs)) ∷ []
 
 abbrev pub text_draft : Text → TextDraft
 text_draft c =

@@ -10,7 +10,8 @@ use Rattle.affc_lex.specs.Pieces.{prelude}
 use Rattle.affc_ast.specs.declared.tree.Op.{Op}
 use Rattle.affc_ast.specs.declared.tree.Op.TheVariants.{Add, Sub, Mul, And, Or, Xor}
 use Rattle.affc_ast.specs.declared.tree.Rel.{Rel}
-use Rattle.affc_ast.specs.declared.tree.Rel.TheVariants.{Less, LessEqual, Greater, GreaterEqual, Equal}
+use Rattle.affc_ast.specs.declared.tree.Rel.TheVariants.{Less, LessEqual, Greater, GreaterEqual, Equal, NotEqual}
+use Rattle.affc_ast.specs.Joined.{is_ordered}
 
 abbrev pub is_mark_kind : Kind → Bool
 is_mark_kind Mark = true
@@ -116,19 +117,25 @@ abbrev pub dims_symbols : {prelude : Bool} → DimsText prelude → List Symbol
 dims_symbols no_dims = []
 dims_symbols (and_dim ds a) = dims_symbols ds ++ dim_symbols a
 
--- ---- Conditions
+-- ---- Conditions (6.5.8, 6.5.9, 6.5.13, 6.5.14): of an `if`, which are wide, and of a `context` line, which are comparisons joined by "&&" without "!="
 
 mutual
-  -- conds = cond { "&&" cond }
-  pub data CondsText (prelude : Bool) : Type 0 where
-    cond : CondText prelude → CondsText prelude
-    and_cond : CondsText prelude → CondText prelude → CondsText prelude
+  -- cond = all { "||" all }     ("||" in an `if` only)
+  pub data CondText (prelude wide : Bool) : Type 0 where
+    all_of : AllText prelude wide → CondText prelude wide
+    or_all : IsTrue wide → CondText prelude wide → AllText prelude wide → CondText prelude wide
 
-  -- cond = "(" conds ")" | ix rel ix
-  -- rel = "<" | "<=" | ">" | ">=" | "=="
-  pub data CondText (prelude : Bool) : Type 0 where
-    all_of : CondsText prelude → CondText prelude
-    compared : IxText prelude → Rel → IxText prelude → CondText prelude
+  -- all = prim { "&&" prim }
+  pub data AllText (prelude wide : Bool) : Type 0 where
+    prim : PrimText prelude wide → AllText prelude wide
+    and_prim : AllText prelude wide → PrimText prelude wide → AllText prelude wide
+
+  -- prim = "(" cond ")" | ix rel ix | term "%" Number ( "==" | "!=" ) "0"     (a remainder in an `if` only, by at least 1)
+  -- rel = "<" | "<=" | ">" | ">=" | "==" | "!="     ("!=" in an `if` only)
+  pub data PrimText (prelude wide : Bool) : Type 0 where
+    enclosed : CondText prelude wide → PrimText prelude wide
+    compared : IxText prelude → (rel : Rel) → IsTrue (wide || is_ordered rel) → IxText prelude → PrimText prelude wide
+    divisible : IsTrue wide → TermText prelude → (by : Digits) → IsTrue (is_divisor by) → (so : Bool) → PrimText prelude wide
 
 abbrev pub rel_mark : Rel → List ℕ
 rel_mark Less = codes "<"
@@ -136,15 +143,26 @@ rel_mark LessEqual = codes "<="
 rel_mark Greater = codes ">"
 rel_mark GreaterEqual = codes ">="
 rel_mark Equal = codes "=="
+rel_mark NotEqual = codes "!="
+
+-- "==" where the remainder is to be 0
+abbrev pub zero_mark : (so : Bool) → List ℕ
+zero_mark true = codes "=="
+zero_mark false = codes "!="
 
 abbrev mutual
-  pub conds_symbols : {prelude : Bool} → CondsText prelude → List Symbol
-  conds_symbols (cond c) = cond_symbols c
-  conds_symbols (and_cond cs c) = conds_symbols cs ++ mark (codes "&&") ∷ cond_symbols c
+  pub cond_symbols : {prelude wide : Bool} → CondText prelude wide → List Symbol
+  cond_symbols (all_of a) = all_symbols a
+  cond_symbols (or_all _ c a) = cond_symbols c ++ mark (codes "||") ∷ all_symbols a
 
-  pub cond_symbols : {prelude : Bool} → CondText prelude → List Symbol
-  cond_symbols (all_of cs) = mark (codes "(") ∷ (conds_symbols cs ++ mark (codes ")") ∷ [])
-  cond_symbols (compared a rel b) = ix_symbols a ++ mark (rel_mark rel) ∷ ix_symbols b
+  pub all_symbols : {prelude wide : Bool} → AllText prelude wide → List Symbol
+  all_symbols (prim q) = prim_symbols q
+  all_symbols (and_prim a q) = all_symbols a ++ mark (codes "&&") ∷ prim_symbols q
+
+  pub prim_symbols : {prelude wide : Bool} → PrimText prelude wide → List Symbol
+  prim_symbols (enclosed c) = mark (codes "(") ∷ (cond_symbols c ++ mark (codes ")") ∷ [])
+  prim_symbols (compared a rel _ b) = ix_symbols a ++ mark (rel_mark rel) ∷ ix_symbols b
+  prim_symbols (divisible _ t by _ so) = term_symbols t ++ mark (codes "%") ∷ number by ∷ mark (zero_mark so) ∷ number (codes "0") ∷ []
 
 -- ---- Values
 
@@ -238,21 +256,24 @@ mutual
 
   -- stmt = for | if | assign | "{" { local } { stmt } "}"
   pub data StmtText (prelude : Bool) : Type 0 where
-    simple : SimpleText prelude → StmtText prelude
+    simple : {dangles : Bool} → SimpleText prelude dangles → StmtText prelude
     block : LocalsText prelude → StmtsText prelude → StmtText prelude
 
+  -- A statement or a body is open where it ends in an `if` without `else`. Since no open body stands before an `else`, this belongs to the nearest `if`
+  -- before it that has none (6.8.4.1).
   -- for = "for" "(" "int64_t" Word "=" ix ";" Word ( "<" | "<=" ) ix ";" step ")" body
-  -- if = "if" "(" conds ")" body
+  -- if = "if" "(" cond ")" body [ "else" body ]
   -- assign = Word { dim } ( "=" | "+=" | "-=" | "*=" | "&=" | "|=" | "^=" ) value ";"
-  pub data SimpleText (prelude : Bool) : Type 0 where
-    for_loop : (iterator : Name) → (low : IxText prelude) → (tested : Name) → (strict : Bool) → (high : IxText prelude) → StepText → BodyText prelude → SimpleText prelude
-    if_all : CondsText prelude → BodyText prelude → SimpleText prelude
-    assign : Name → DimsText prelude → Option Op → ValueText prelude 6 → SimpleText prelude
+  pub data SimpleText (prelude : Bool) : (dangles : Bool) → Type 0 where
+    for_loop : {dangles : Bool} → (iterator : Name) → (low : IxText prelude) → (tested : Name) → (strict : Bool) → (high : IxText prelude) → StepText → BodyText prelude dangles → SimpleText prelude dangles
+    if_then : {dangles : Bool} → CondText prelude true → BodyText prelude dangles → SimpleText prelude true
+    if_else : {dangles : Bool} → CondText prelude true → BodyText prelude false → BodyText prelude dangles → SimpleText prelude dangles
+    assign : Name → DimsText prelude → Option Op → ValueText prelude 6 → SimpleText prelude false
 
   -- body = "{" { stmt } "}" | stmt     (braces are the body's own)
-  pub data BodyText (prelude : Bool) : Type 0 where
-    braces : StmtsText prelude → BodyText prelude
-    bare : SimpleText prelude → BodyText prelude
+  pub data BodyText (prelude : Bool) : (dangles : Bool) → Type 0 where
+    braces : StmtsText prelude → BodyText prelude false
+    bare : {dangles : Bool} → SimpleText prelude dangles → BodyText prelude dangles
 
 abbrev mutual
   pub stmts_symbols : {prelude : Bool} → StmtsText prelude → List Symbol
@@ -263,13 +284,14 @@ abbrev mutual
   stmt_symbols (simple s) = simple_symbols s
   stmt_symbols (block ls ss) = mark (codes "{") ∷ (locals_symbols ls ++ (stmts_symbols ss ++ mark (codes "}") ∷ []))
 
-  pub simple_symbols : {prelude : Bool} → SimpleText prelude → List Symbol
+  pub simple_symbols : {prelude dangles : Bool} → SimpleText prelude dangles → List Symbol
   simple_symbols (for_loop iterator low tested strict high step body) =
       word (codes "for") ∷ mark (codes "(") ∷ word (codes "int64_t") ∷ word iterator ∷ mark (codes "=") ∷ (ix_symbols low ++ mark (codes ";") ∷ word tested ∷ mark (bound_mark strict) ∷ (ix_symbols high ++ mark (codes ";") ∷ (step_symbols step ++ mark (codes ")") ∷ body_symbols body)))
-  simple_symbols (if_all cs body) = word (codes "if") ∷ mark (codes "(") ∷ (conds_symbols cs ++ mark (codes ")") ∷ body_symbols body)
+  simple_symbols (if_then c body) = word (codes "if") ∷ mark (codes "(") ∷ (cond_symbols c ++ mark (codes ")") ∷ body_symbols body)
+  simple_symbols (if_else c body other) = word (codes "if") ∷ mark (codes "(") ∷ (cond_symbols c ++ mark (codes ")") ∷ (body_symbols body ++ word (codes "else") ∷ body_symbols other))
   simple_symbols (assign array subs op v) = word array ∷ (dims_symbols subs ++ mark (assign_mark op) ∷ (value_symbols v ++ mark (codes ";") ∷ []))
 
-  pub body_symbols : {prelude : Bool} → BodyText prelude → List Symbol
+  pub body_symbols : {prelude dangles : Bool} → BodyText prelude dangles → List Symbol
   body_symbols (braces ss) = mark (codes "{") ∷ (stmts_symbols ss ++ mark (codes "}") ∷ [])
   body_symbols (bare s) = simple_symbols s
 
@@ -337,11 +359,11 @@ abbrev pub int_symbols : IntText → List Symbol
 int_symbols i = if i.negative then mark (codes "-") ∷ number i.digits ∷ [] else number i.digits ∷ []
 
 -- { pragma }
--- pragma = Hash "pragma" "affc" "param" Word int int LineEnd | Hash "pragma" "affc" "context" conds LineEnd
+-- pragma = Hash "pragma" "affc" "param" Word int int LineEnd | Hash "pragma" "affc" "context" cond LineEnd
 pub data PragmasText : Type 0 where
   no_pragmas : PragmasText
   and_range : PragmasText → Name → (low high : IntText) → LineText → PragmasText
-  and_context : PragmasText → CondsText true → LineText → PragmasText
+  and_context : PragmasText → CondText true false → LineText → PragmasText
 
 abbrev pub pragma_symbols : Name → List Symbol
 pragma_symbols kind = record { kind = Hash; bytes = codes "#" } ∷ word (codes "pragma") ∷ word (codes "affc") ∷ word kind ∷ []
@@ -349,7 +371,7 @@ pragma_symbols kind = record { kind = Hash; bytes = codes "#" } ∷ word (codes 
 abbrev pub pragmas_symbols : PragmasText → List Symbol
 pragmas_symbols no_pragmas = []
 pragmas_symbols (and_range ps w low high line) = pragmas_symbols ps ++ (pragma_symbols (codes "param") ++ word w ∷ (int_symbols low ++ (int_symbols high ++ line_symbols line)))
-pragmas_symbols (and_context ps cs line) = pragmas_symbols ps ++ (pragma_symbols (codes "context") ++ (conds_symbols cs ++ line_symbols line))
+pragmas_symbols (and_context ps c line) = pragmas_symbols ps ++ (pragma_symbols (codes "context") ++ (cond_symbols c ++ line_symbols line))
 
 -- whether a Word stands directly before a "(", which in conditions is a call
 abbrev pub has_call : List Symbol → Bool
@@ -359,7 +381,7 @@ has_call _ = false
 abbrev pub context_calls : PragmasText → Bool
 context_calls no_pragmas = false
 context_calls (and_range ps w low high line) = context_calls ps
-context_calls (and_context ps cs line) = context_calls ps || has_call (conds_symbols cs)
+context_calls (and_context ps c line) = context_calls ps || has_call (cond_symbols c)
 
 -- include = Hash "include" Header LineEnd     (the Header is <stdint.h>)
 abbrev pub include_symbols : LineText → List Symbol

@@ -1,12 +1,13 @@
 -- The limits of a text, and the rule on products. Each limit gives the numbers of the tokens at which it is passed, of which the first is the fault's.
-use Rattle.std.specs.Prelude.{ℕ, ◌+◌, ◌-◌, ◌^◌, Bool, true, false, not, ◌&&◌, ◌||◌, nat_le, nat_lt, List, [], ◌∷◌, ◌++◌, length, drop, map, codes, filter, flat_map, Option, Some, None, ℤ, pos, ◌+ℤ◌, ◌-ℤ◌, ◌*ℤ◌, neg_ℤ, nat_abs, int_le, if◌then◌else◌}
+use Rattle.std.specs.Prelude.{ℕ, ◌+◌, ◌*◌, ◌-◌, ◌^◌, Bool, true, false, not, ◌&&◌, ◌||◌, nat_le, nat_lt, List, [], ◌∷◌, ◌++◌, length, drop, map, codes, filter, flat_map, Option, Some, None, ℤ, pos, ◌+ℤ◌, ◌-ℤ◌, ◌*ℤ◌, neg_ℤ, nat_abs, int_le, if◌then◌else◌}
 use Rattle.std.specs.List.{list_any}
 use Rattle.affc_lex.specs.Bytes.{same}
 use Rattle.affc_lex.specs.Lexes.{is_line_end}
+use Rattle.affc_ast.specs.Pieces.{Counts, counts_of_relation, counts_of_all, counts_of_any, single}
 use Rattle.affc_grammar.specs.declared.fault.LimitName.{LimitName}
-use Rattle.affc_grammar.specs.declared.fault.LimitName.TheVariants.{Tokens, Run, Depth, Items, Parameters, Range, Loops, Statements, Empty, Accesses, Dimensions, Comparisons, Literal, Coefficient}
+use Rattle.affc_grammar.specs.declared.fault.LimitName.TheVariants.{Tokens, Run, Depth, Items, Parameters, Range, Loops, Statements, Empty, Accesses, Dimensions, Comparisons, Literal, Coefficient, Pieces}
 use Rattle.affc_grammar.specs.Grammar.{Symbol, Name, is_word_kind, is_mark_kind}
-use Rattle.affc_grammar.specs.Draft.{IxDraft, literal, name, negated, sum, difference, product, grouped, chosen, divided, CompareDraft, ValueDraft, load, constant, cast, complement, binary, shift, StmtsDraft, no_stmts, and_stmt, StmtDraft, for_loop, if_all, assign, block, DeclDraft, ParamDraft, number_param, array_param, PragmaDraft, range, context, TextDraft}
+use Rattle.affc_grammar.specs.Draft.{IxDraft, literal, name, negated, sum, difference, product, grouped, chosen, divided, CompareDraft, CondsDraft, no_conds, and_cond, CondDraft, comparison, divisible, all_of, any_of, ValueDraft, load, constant, cast, complement, binary, shift, StmtsDraft, no_stmts, and_stmt, StmtDraft, for_loop, if_cond, assign, block, DeclDraft, ParamDraft, number_param, array_param, PragmaDraft, range, context, TextDraft}
 
 pub record Limits : Type 0 where
   -- bytes of the text
@@ -24,16 +25,20 @@ pub record Limits : Type 0 where
   pub empty : Bool
   -- comparisons of the `if`s round an assignment
   pub comparisons : Option ℕ
+  -- pieces of the conditions round an assignment
+  pub pieces : Option ℕ
   pub literal : ℕ
+  -- the number of a remainder
+  pub divisor : ℕ
   -- whether the forms of affine texts have limits
   pub forms : Bool
 
 -- without the prelude, and with it
 abbrev pub plain_limits : Limits
-plain_limits = record { size = Some 1048576; tokens = 65536; run = 2048; depth = 64; items = 256; loops = 6; empty = true; comparisons = Some 32; literal = 16777216; forms = true }
+plain_limits = record { size = Some 1048576; tokens = 65536; run = 2048; depth = 64; items = 256; loops = 6; empty = true; comparisons = Some 32; pieces = Some 16; literal = 16777216; divisor = 65536; forms = true }
 
 abbrev pub wide_limits : Limits
-wide_limits = record { size = None; tokens = 16777216; run = 65536; depth = 256; items = 4096; loops = 12; empty = false; comparisons = None; literal = 2 ^ 62; forms = false }
+wide_limits = record { size = None; tokens = 16777216; run = 65536; depth = 256; items = 4096; loops = 12; empty = false; comparisons = None; pieces = None; literal = 2 ^ 62; divisor = 2 ^ 62; forms = false }
 
 abbrev pub limits_of : (has_prelude : Bool) → Limits
 limits_of true = wide_limits
@@ -106,10 +111,21 @@ shape_passed limits symbols =
     ++ passed_at Depth (tokens_past count_open limits.depth 0 0 symbols)
     ++ passed_at Items (tokens_past count_item limits.items 0 0 symbols)
 
--- ---- Affine texts: bounds, sides of comparisons, subscripts, extents, casts, values of locals
+-- ---- Affine texts: bounds, sides of comparisons, values of remainders, subscripts, extents, casts, values of locals
 
 abbrev pub sides : CompareDraft → List IxDraft
 sides c = c.left ∷ c.right ∷ []
+
+abbrev mutual
+  pub conds_texts : CondsDraft → List IxDraft
+  conds_texts no_conds = []
+  conds_texts (and_cond cs c) = conds_texts cs ++ cond_texts c
+
+  pub cond_texts : CondDraft → List IxDraft
+  cond_texts (comparison c) = sides c
+  cond_texts (divisible a by_at by so) = a ∷ []
+  cond_texts (all_of cs) = conds_texts cs
+  cond_texts (any_of cs) = conds_texts cs
 
 abbrev pub value_texts : ValueDraft → List IxDraft
 value_texts (load at w subs) = subs
@@ -126,7 +142,7 @@ abbrev mutual
 
   pub stmt_texts : StmtDraft → List IxDraft
   stmt_texts (for_loop h body) = h.low ∷ h.high ∷ stmts_texts body
-  stmt_texts (if_all at cs body) = flat_map sides cs ++ stmts_texts body
+  stmt_texts (if_cond at c body other) = cond_texts c ++ stmts_texts body ++ stmts_texts other
   stmt_texts (assign w subs op v) = subs ++ value_texts v
   stmt_texts (block ls body) = map (λ l. l.value) ls ++ stmts_texts body
 
@@ -233,14 +249,76 @@ large_parts (grouped at a) = large_here (grouped at a) ++ large_parts a
 large_parts (chosen at f a b) = large_parts a ++ large_parts b
 large_parts (divided at f a by_at by) = large_parts a
 
+-- ---- Conditions
+
+-- the Numbers of remainders that are above the limit
+abbrev mutual
+  pub conds_past : (limit : ℕ) → CondsDraft → List ℕ
+  conds_past limit no_conds = []
+  conds_past limit (and_cond cs c) = conds_past limit cs ++ cond_past limit c
+
+  pub cond_past : (limit : ℕ) → CondDraft → List ℕ
+  cond_past limit (comparison c) = []
+  cond_past limit (divisible a by_at by so) = at_if (nat_lt limit by) by_at
+  cond_past limit (all_of cs) = conds_past limit cs
+  cond_past limit (any_of cs) = conds_past limit cs
+
+abbrev mutual
+  pub divisors_past : (limit : ℕ) → StmtsDraft → List ℕ
+  divisors_past limit no_stmts = []
+  divisors_past limit (and_stmt ss s) = divisors_past limit ss ++ divisors_past_in limit s
+
+  pub divisors_past_in : (limit : ℕ) → StmtDraft → List ℕ
+  divisors_past_in limit (for_loop h body) = divisors_past limit body
+  divisors_past_in limit (if_cond at c body other) = cond_past limit c ++ divisors_past limit body ++ divisors_past limit other
+  divisors_past_in limit (assign w subs op v) = []
+  divisors_past_in limit (block ls body) = divisors_past limit body
+
+-- how many comparisons and remainders
+abbrev mutual
+  pub conds_count : CondsDraft → ℕ
+  conds_count no_conds = 0
+  conds_count (and_cond cs c) = conds_count cs + cond_count c
+
+  pub cond_count : CondDraft → ℕ
+  cond_count (comparison c) = 1
+  cond_count (divisible a by_at by so) = 1
+  cond_count (all_of cs) = conds_count cs
+  cond_count (any_of cs) = conds_count cs
+
+-- how many pieces a condition has, and how many its denial has
+abbrev mutual
+  pub conds_pieces : CondsDraft → List Counts
+  conds_pieces no_conds = []
+  conds_pieces (and_cond cs c) = conds_pieces cs ++ cond_pieces c ∷ []
+
+  pub cond_pieces : CondDraft → Counts
+  cond_pieces (comparison c) = counts_of_relation c.rel
+  cond_pieces (divisible a by_at by so) = single
+  cond_pieces (all_of cs) = counts_of_all (conds_pieces cs)
+  cond_pieces (any_of cs) = counts_of_any (conds_pieces cs)
+
 -- ---- Assignments
+
+-- what stands round: comparisons and remainders of the `if`s, and pieces of their conditions, denied round what follows an `else`
+pub record Round : Type 0 where
+  pub comparisons : ℕ
+  pub pieces : ℕ
+
+abbrev pub no_round : Round
+no_round = record { comparisons = 0; pieces = 1 }
+
+abbrev pub under_body : CondDraft → Round → Round
+under_body c r = record { comparisons = r.comparisons + cond_count c; pieces = r.pieces * (cond_pieces c).plain }
+
+abbrev pub under_other : CondDraft → Round → Round
+under_other c r = record { comparisons = r.comparisons + cond_count c; pieces = r.pieces * (cond_pieces c).denied }
 
 pub record Assigned : Type 0 where
   -- its first word
   pub at : ℕ
   pub accesses : ℕ
-  -- comparisons of the `if`s round it
-  pub comparisons : ℕ
+  pub round : Round
 
 abbrev pub loads_in : ValueDraft → ℕ
 loads_in (load at w subs) = 1
@@ -250,22 +328,22 @@ loads_in (complement v) = loads_in v
 loads_in (binary op v w) = loads_in v + loads_in w
 loads_in (shift left v by) = loads_in v
 
--- the assignments in the order of the text, where so many comparisons stand round them
+-- the assignments in the order of the text, where this stands round them
 abbrev mutual
-  pub assigned : (comparisons : ℕ) → StmtsDraft → List Assigned
-  assigned n no_stmts = []
-  assigned n (and_stmt ss s) = assigned n ss ++ assigned_in n s
+  pub assigned : Round → StmtsDraft → List Assigned
+  assigned r no_stmts = []
+  assigned r (and_stmt ss s) = assigned r ss ++ assigned_in r s
 
-  pub assigned_in : (comparisons : ℕ) → StmtDraft → List Assigned
-  assigned_in n (for_loop h body) = assigned n body
-  assigned_in n (if_all at cs body) = assigned (n + length cs) body
+  pub assigned_in : Round → StmtDraft → List Assigned
+  assigned_in r (for_loop h body) = assigned r body
+  assigned_in r (if_cond at c body other) = assigned (under_body c r) body ++ assigned (under_other c r) other
   -- `op=` loads its own element, and each assignment stores
-  assigned_in n (assign w subs None v) = record { at = w.at; accesses = loads_in v + 1; comparisons = n } ∷ []
-  assigned_in n (assign w subs (Some op) v) = record { at = w.at; accesses = loads_in v + 2; comparisons = n } ∷ []
-  assigned_in n (block ls body) = assigned n body
+  assigned_in r (assign w subs None v) = record { at = w.at; accesses = loads_in v + 1; round = r } ∷ []
+  assigned_in r (assign w subs (Some op) v) = record { at = w.at; accesses = loads_in v + 2; round = r } ∷ []
+  assigned_in r (block ls body) = assigned r body
 
 abbrev pub has_assignment : StmtsDraft → Bool
-has_assignment body = nat_lt 0 (length (assigned 0 body))
+has_assignment body = nat_lt 0 (length (assigned no_round body))
 
 -- the `for`s that are one too many round an assignment, where so many stand round them
 abbrev mutual
@@ -275,11 +353,11 @@ abbrev mutual
 
   pub loops_past_in : (limit round : ℕ) → StmtDraft → List ℕ
   loops_past_in limit n (for_loop h body) = at_if (nat_le limit n && has_assignment body) h.at ++ loops_past limit (n + 1) body
-  loops_past_in limit n (if_all at cs body) = loops_past limit n body
+  loops_past_in limit n (if_cond at c body other) = loops_past limit n body ++ loops_past limit n other
   loops_past_in limit n (assign w subs op v) = []
   loops_past_in limit n (block ls body) = loops_past limit n body
 
--- the words `for` and `if` without an assignment inside
+-- the words `for` and `if` without an assignment inside, which may follow the `else`
 abbrev mutual
   pub empty_bodies : StmtsDraft → List ℕ
   empty_bodies no_stmts = []
@@ -287,7 +365,7 @@ abbrev mutual
 
   pub empty_bodies_in : StmtDraft → List ℕ
   empty_bodies_in (for_loop h body) = at_if (not (has_assignment body)) h.at ++ empty_bodies body
-  empty_bodies_in (if_all at cs body) = at_if (not (has_assignment body)) at ++ empty_bodies body
+  empty_bodies_in (if_cond at c body other) = at_if (not (has_assignment body || has_assignment other)) at ++ empty_bodies body ++ empty_bodies other
   empty_bodies_in (assign w subs op v) = []
   empty_bodies_in (block ls body) = empty_bodies body
 
@@ -322,7 +400,7 @@ contexts_past n (context at cs ∷ ps) = at_if (nat_lt 16 (n + length cs)) at ++
 
 abbrev pub passed : Limits → TextDraft → List Passed
 passed limits c =
-    let assignments = assigned 0 c.body in
+    let assignments = assigned no_round c.body in
     let texts = affine_texts c in
     passed_at Parameters (drop 4 (number_words c.params))
     ++ passed_at Range (ranges_past c.pragmas)
@@ -332,6 +410,8 @@ passed limits c =
     ++ passed_at Accesses (map (λ a. a.at) (filter (λ a. nat_lt 16 a.accesses) assignments))
     ++ passed_at Dimensions (map (λ d. d.word.at) (filter (λ d. nat_lt 4 (length d.extents)) (param_decls c.params ++ c.temps)))
     ++ passed_at Comparisons (contexts_past 0 c.pragmas)
-    ++ passed_at Comparisons (map (λ a. a.at) (filter (λ a. passes limits.comparisons a.comparisons) assignments))
+    ++ passed_at Comparisons (map (λ a. a.at) (filter (λ a. passes limits.comparisons a.round.comparisons) assignments))
     ++ passed_at Literal (flat_map (literals_past limits.literal) texts)
     ++ passed_at Coefficient (if limits.forms then flat_map large_parts texts else [])
+    ++ passed_at Coefficient (divisors_past limits.divisor c.body)
+    ++ passed_at Pieces (map (λ a. a.at) (filter (λ a. passes limits.pieces a.round.pieces) assignments))

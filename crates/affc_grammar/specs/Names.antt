@@ -11,6 +11,8 @@ use Rattle.affc_ast.specs.declared.tree.Ix.TheVariants as ix
 use Rattle.affc_ast.specs.declared.tree.Val.{Val}
 use Rattle.affc_ast.specs.declared.tree.Val.TheVariants as val
 use Rattle.affc_ast.specs.declared.tree.Compare.{Compare}
+use Rattle.affc_ast.specs.declared.tree.Cond.{Cond}
+use Rattle.affc_ast.specs.declared.tree.Cond.TheVariants as cond
 use Rattle.affc_ast.specs.declared.tree.Local.{Local}
 use Rattle.affc_ast.specs.declared.tree.Stmt.{Stmt}
 use Rattle.affc_ast.specs.declared.tree.Stmt.TheVariants as stmt
@@ -23,7 +25,7 @@ use Rattle.affc_ast.specs.declared.tree.Program.{Program}
 use Rattle.affc_grammar.specs.declared.fault.NameWhy.{NameWhy}
 use Rattle.affc_grammar.specs.declared.fault.NameWhy.TheVariants.{Unknown, Twice, Reserved, Const, Kind, NoRange}
 use Rattle.affc_grammar.specs.Grammar.{Name, Choice, minimum, maximum, remainder, Rounding, down, up}
-use Rattle.affc_grammar.specs.Draft.{IxDraft, literal, name, negated, sum, difference, product, grouped, chosen, divided, CompareDraft, ValueDraft, load, constant, cast, complement, binary, shift, LocalDraft, HeadDraft, StmtsDraft, no_stmts, and_stmt, StmtDraft, for_loop, if_all, assign, block, DeclDraft, ParamDraft, number_param, array_param, PragmaDraft, range, context, TextDraft}
+use Rattle.affc_grammar.specs.Draft.{IxDraft, literal, name, negated, sum, difference, product, grouped, chosen, divided, CompareDraft, CondsDraft, no_conds, and_cond, CondDraft, comparison, divisible, all_of, any_of, ValueDraft, load, constant, cast, complement, binary, shift, LocalDraft, HeadDraft, StmtsDraft, no_stmts, and_stmt, StmtDraft, for_loop, if_cond, assign, block, DeclDraft, ParamDraft, number_param, array_param, PragmaDraft, range, context, TextDraft}
 
 -- affc_t0, affc_t1, ..
 abbrev pub is_time_name : Name → Bool
@@ -175,6 +177,17 @@ ix_tree scope (divided at f a by_at by) = ix_tree scope a >>= (λ x. Ok (roundin
 abbrev pub compare_tree : Scope → CompareDraft → Checked Compare
 compare_tree scope c = ix_tree scope c.left >>= (λ x. ix_tree scope c.right >>= (λ y. Ok (record { rel = c.rel; left = x; right = y })))
 
+abbrev mutual
+  pub conds_tree : Scope → CondsDraft → Checked (List Cond)
+  conds_tree scope no_conds = Ok []
+  conds_tree scope (and_cond cs c) = conds_tree scope cs >>= (λ xs. cond_tree scope c >>= (λ x. Ok (xs ++ x ∷ [])))
+
+  pub cond_tree : Scope → CondDraft → Checked Cond
+  cond_tree scope (comparison c) = ix_tree scope c.left >>= (λ x. ix_tree scope c.right >>= (λ y. Ok (cond.Compare c.rel x y)))
+  cond_tree scope (divisible a by_at by so) = ix_tree scope a >>= (λ x. Ok (cond.Divides x (pos by) so))
+  cond_tree scope (all_of cs) = conds_tree scope cs >>= (λ xs. Ok (cond.All xs))
+  cond_tree scope (any_of cs) = conds_tree scope cs >>= (λ xs. Ok (cond.Any xs))
+
 abbrev pub value_tree : Scope → ValueDraft → Checked Val
 value_tree scope (load at w subs) = array_named scope at w false (length subs) >>= (λ id. each (ix_tree scope) subs >>= (λ xs. Ok (val.Load id xs)))
 value_tree scope (constant n) = Ok (val.Const n)
@@ -212,7 +225,11 @@ abbrev mutual
       head_tree scope h >>= (λ bounds.
       stmts_tree (with_number true scope h.iterator.name) body >>= (λ xs.
       Ok (stmt.For h.iterator.name bounds.0 h.rel bounds.1 xs)))
-  stmt_tree scope (if_all at cs body) = each (compare_tree scope) cs >>= (λ ys. stmts_tree scope body >>= (λ xs. Ok (stmt.If ys xs)))
+  stmt_tree scope (if_cond at c body other) =
+      cond_tree scope c >>= (λ x.
+      stmts_tree scope body >>= (λ xs.
+      stmts_tree scope other >>= (λ ys.
+      Ok (stmt.If x xs ys))))
   stmt_tree scope (assign w subs op v) =
       array_named scope w.at w.name true (length subs) >>= (λ id.
       each (ix_tree scope) subs >>= (λ xs.

@@ -1,8 +1,8 @@
 -- The text as which a program is printed. It has braces round every body, names from the tree, and parentheses round an operand whose operator binds looser
 -- (on the right, also as tightly), round a negation except by itself and left of "+" and "-", and round a call under a minus.
 --
--- What no text can say (a negative literal, a shift past 63, a divisor below 1, a call without the prelude, an `if` without conditions, an array parameter without
--- extents, a number of nothing) is written as something else here; no text reads as a tree with such a part.
+-- What no text can say (a negative literal, a shift past 63, a divisor below 1, a call without the prelude, conditions joined that are none, "!=" in the context, an
+-- array parameter without extents, a number of nothing) is written as something else here; no text reads as a tree with such a part.
 use Rattle.std.specs.Prelude.{◌+◌, Bool, true, false, not, ◌||◌, List, [], ◌∷◌, ◌++◌, map, codes, IsTrue, refl, Option, Some, None, ℤ, pos, negsuc, nat_abs, slice_get, unwrap_or, decimal as digits_of}
 use Rattle.affc_ast.specs.declared.tree.NameId.{NameId}
 use Rattle.affc_ast.specs.declared.tree.ArrayId.{ArrayId}
@@ -17,6 +17,10 @@ use Rattle.affc_ast.specs.declared.tree.Val.TheOpen.{Val-F}
 use Rattle.affc_ast.specs.declared.tree.Rel.{Rel}
 use Rattle.affc_ast.specs.declared.tree.Rel.TheVariants.{Less}
 use Rattle.affc_ast.specs.declared.tree.Compare.{Compare}
+use Rattle.affc_ast.specs.declared.tree.Cond.{Cond}
+use Rattle.affc_ast.specs.declared.tree.Cond.TheOpen as cond
+use Rattle.affc_ast.specs.declared.tree.Cond.TheOpen.{Cond-F}
+use Rattle.affc_ast.specs.Joined.{is_ordered}
 use Rattle.affc_ast.specs.declared.tree.Local.{Local}
 use Rattle.affc_ast.specs.declared.tree.Stmt.{Stmt}
 use Rattle.affc_ast.specs.declared.tree.Stmt.TheOpen as stmt
@@ -25,10 +29,10 @@ use Rattle.affc_ast.specs.declared.tree.Decl.{Decl}
 use Rattle.affc_ast.specs.declared.tree.Param.{Param}
 use Rattle.affc_ast.specs.declared.tree.Param.TheVariants.{Number, Array}
 use Rattle.affc_ast.specs.declared.tree.Program.{Program}
-use Rattle.affc_ast.specs.Recursion.{by_ix, by_val, by_stmt}
+use Rattle.affc_ast.specs.Recursion.{by_ix, by_val, by_cond, by_stmt}
 pub use Rattle.affc_grammar.specs.Names.{is_input}
 pub use Rattle.affc_grammar.specs.Reading.{holding}
-use Rattle.affc_grammar.specs.Grammar.{Name, Digits, Choice, minimum, maximum, remainder, Rounding, down, up, is_divisor, is_shift, IxText, term, plus, minus, TermText, factor, times, FactorText, atom, negated, AtomText, literal, name, grouped, chosen, divided, DimsText, no_dims, and_dim, CondsText, cond, and_cond, CondText, compared, ValueText, complement, load, constant, parens, cast, operand, binary, shift, then_up, LocalsText, no_locals, and_local, StmtsText, no_stmts, and_stmt, StmtText, simple, block, for_loop, if_all, assign, braces, ParamText, number_param, array_param, ParamsText, param, and_param, one_array, DeclsText, no_decls, and_decl, IntText, PragmasText, no_pragmas, and_range, and_context, line_feed, Text, FunctionText, context_calls}
+use Rattle.affc_grammar.specs.Grammar.{Name, Digits, Choice, minimum, maximum, remainder, Rounding, down, up, is_divisor, is_shift, IxText, term, plus, minus, TermText, factor, times, FactorText, atom, negated, AtomText, literal, name, grouped, chosen, divided, DimsText, no_dims, and_dim, CondText, all_of, or_all, AllText, prim, and_prim, PrimText, enclosed, compared, divisible, ValueText, complement, load, constant, parens, cast, operand, binary, shift, then_up, LocalsText, no_locals, and_local, StmtsText, no_stmts, and_stmt, StmtText, simple, block, for_loop, if_then, if_else, assign, braces, ParamText, number_param, array_param, ParamsText, param, and_param, one_array, DeclsText, no_decls, and_decl, IntText, PragmasText, no_pragmas, and_range, and_context, line_feed, Text, FunctionText, context_calls}
 
 -- the names of the numbers and the arrays that are visible, by their numbers
 pub record Names : Type 0 where
@@ -109,8 +113,11 @@ ix_step prelude names (ix.Mod a b) = chosen_written prelude remainder a.whole b.
 ix_step prelude names (ix.Floord a by) = divided_written prelude down a.whole by
 ix_step prelude names (ix.Ceild a by) = divided_written prelude up a.whole by
 
+abbrev pub ix_written : (prelude : Bool) → Names → Ix → IxWritten prelude
+ix_written prelude names e = by_ix (ix_step prelude names) e
+
 abbrev pub ix_text : (prelude : Bool) → Names → Ix → IxText prelude
-ix_text prelude names e = (by_ix (ix_step prelude names) e).whole
+ix_text prelude names e = (ix_written prelude names e).whole
 
 abbrev pub and_dims : (prelude : Bool) → Names → DimsText prelude → List Ix → DimsText prelude
 and_dims prelude names ds [] = ds
@@ -121,16 +128,64 @@ dims_text prelude names es = and_dims prelude names no_dims es
 
 -- ---- Conditions
 
-abbrev pub cond_text : (prelude : Bool) → Names → Compare → CondText prelude
-cond_text prelude names c = compared (ix_text prelude names c.left) c.rel (ix_text prelude names c.right)
+-- a condition at each place where one stands
+pub record CondWritten (prelude : Bool) : Type 0 where
+  -- by itself
+  pub whole : CondText prelude true
+  -- beside "||", and beside "&&"
+  pub in_any : AllText prelude true
+  pub in_all : PrimText prelude true
 
-abbrev pub and_conds : (prelude : Bool) → Names → CondsText prelude → List Compare → CondsText prelude
-and_conds prelude names ds [] = ds
-and_conds prelude names ds (c ∷ cs) = and_conds prelude names (and_cond ds (cond_text prelude names c)) cs
+-- a comparison or a remainder
+abbrev pub prim_written : {prelude : Bool} → PrimText prelude true → CondWritten prelude
+prim_written q = record { whole = all_of (prim q); in_any = prim q; in_all = q }
 
-abbrev pub conds_text : (prelude : Bool) → Names → List Compare → CondsText prelude
-conds_text prelude names [] = cond (compared nothing_written.whole Less nothing_written.whole)
-conds_text prelude names (c ∷ cs) = and_conds prelude names (cond (cond_text prelude names c)) cs
+abbrev pub all_written : {prelude : Bool} → AllText prelude true → CondWritten prelude
+all_written a = record { whole = all_of a; in_any = a; in_all = enclosed (all_of a) }
+
+abbrev pub any_written : {prelude : Bool} → CondText prelude true → CondWritten prelude
+any_written c = record { whole = c; in_any = prim (enclosed c); in_all = enclosed c }
+
+abbrev pub and_prims : {prelude : Bool} → AllText prelude true → List (CondWritten prelude) → AllText prelude true
+and_prims a [] = a
+and_prims a (c ∷ cs) = and_prims (and_prim a c.in_all) cs
+
+abbrev pub or_alls : {prelude : Bool} → CondText prelude true → List (CondWritten prelude) → CondText prelude true
+or_alls a [] = a
+or_alls a (c ∷ cs) = or_alls (or_all refl a c.in_any) cs
+
+abbrev pub no_condition : {prelude : Bool} → CondWritten prelude
+no_condition = prim_written (compared nothing_written.whole Less refl nothing_written.whole)
+
+abbrev pub divisible_by : {prelude : Bool} → TermText prelude → (by : Digits) → Option (IsTrue (is_divisor by)) → (so : Bool) → CondWritten prelude
+divisible_by t by None so = no_condition
+divisible_by t by (Some h) so = prim_written (divisible refl t by h so)
+
+abbrev pub cond_step : (prelude : Bool) → Names → Cond-F (CondWritten prelude) → CondWritten prelude
+cond_step prelude names (cond.Compare rel left right) = prim_written (compared (ix_text prelude names left) rel refl (ix_text prelude names right))
+cond_step prelude names (cond.All []) = no_condition
+cond_step prelude names (cond.All (c ∷ cs)) = all_written (and_prims (prim c.in_all) cs)
+cond_step prelude names (cond.Any []) = no_condition
+cond_step prelude names (cond.Any (c ∷ cs)) = any_written (or_alls (all_of c.in_any) cs)
+cond_step prelude names (cond.Divides value by so) = let digits = digits_of (nat_abs by) in divisible_by (ix_written prelude names value).right_of_sum digits (holding (is_divisor digits)) so
+
+abbrev pub cond_text : (prelude : Bool) → Names → Cond → CondText prelude true
+cond_text prelude names c = (by_cond (cond_step prelude names) c).whole
+
+-- the conditions of a `context` line, which can't say "!="
+abbrev pub test_by : Names → (c : Compare) → Option (IsTrue (is_ordered c.rel)) → PrimText true false
+test_by names c None = compared nothing_written.whole Less refl nothing_written.whole
+test_by names c (Some h) = compared (ix_text true names c.left) c.rel h (ix_text true names c.right)
+
+abbrev pub test_text : Names → Compare → PrimText true false
+test_text names c = test_by names c (holding (is_ordered c.rel))
+
+abbrev pub and_tests : Names → AllText true false → List Compare → AllText true false
+and_tests names a [] = a
+and_tests names a (c ∷ cs) = and_tests names (and_prim a (test_text names c)) cs
+
+abbrev pub tests_text : Names → Compare → List Compare → CondText true false
+tests_text names c cs = all_of (and_tests names (prim (test_text names c)) cs)
 
 -- ---- Values
 
@@ -219,7 +274,8 @@ stmts_text names ss (s ∷ more) = stmts_text names (and_stmt ss (s names)) more
 abbrev pub stmt_step : (prelude : Bool) → Stmt-F (Names → StmtText prelude) → Names → StmtText prelude
 stmt_step prelude (stmt.For iter low rel high body) names =
     simple (for_loop iter (ix_text prelude names low) iter (is_less rel) (ix_text prelude names high) (then_up iter) (braces (stmts_text (and_number names iter) no_stmts body)))
-stmt_step prelude (stmt.If cs body) names = simple (if_all (conds_text prelude names cs) (braces (stmts_text names no_stmts body)))
+stmt_step prelude (stmt.If c body []) names = simple (if_then (cond_text prelude names c) (braces (stmts_text names no_stmts body)))
+stmt_step prelude (stmt.If c body (s ∷ ss)) names = simple (if_else (cond_text prelude names c) (braces (stmts_text names no_stmts body)) (braces (stmts_text names no_stmts (s ∷ ss))))
 stmt_step prelude (stmt.Assign op id subs v) names = simple (assign (array_name names id) (dims_text prelude names subs) op (value_text prelude names v))
 stmt_step prelude (stmt.Block ls body) names = let r = locals_text prelude names no_locals ls in block r.0 (stmts_text r.1 no_stmts body)
 
@@ -269,7 +325,7 @@ ranges_text ps (Array d ∷ qs) = ranges_text ps qs
 -- one line with all conditions, if there are any
 abbrev pub context_text : Names → PragmasText → List Compare → PragmasText
 context_text names ps [] = ps
-context_text names ps (c ∷ cs) = and_context ps (conds_text true names (c ∷ cs)) line_feed
+context_text names ps (c ∷ cs) = and_context ps (tests_text names c cs) line_feed
 
 abbrev pub without_calls : (b : Bool) → IsTrue (b || true)
 without_calls true = refl

@@ -1,5 +1,5 @@
 -- Reading a text of the grammar by one token of foresight. `room` is how many brackets may be open at once.
-use Rattle.std.specs.Prelude.{ℕ, zero, suc, Bool, true, false, not, ◌==◌, List, [], ◌∷◌, codes, IsTrue, refl, Option, Some, None, if◌then◌else◌}
+use Rattle.std.specs.Prelude.{ℕ, zero, suc, Bool, true, false, not, ◌||◌, ◌==◌, List, [], ◌∷◌, codes, IsTrue, refl, Option, Some, None, if◌then◌else◌}
 use Rattle.affc_lex.specs.declared.token.Kind.{Kind}
 use Rattle.affc_lex.specs.declared.token.Kind.TheVariants.{Number, Value, Header, Prelude}
 use Rattle.affc_lex.specs.Bytes.{same}
@@ -8,9 +8,10 @@ use Rattle.affc_lex.specs.Pieces.{prelude as prelude_bytes}
 use Rattle.affc_ast.specs.declared.tree.Op.{Op}
 use Rattle.affc_ast.specs.declared.tree.Op.TheVariants.{Add, Sub, Mul, And, Or, Xor}
 use Rattle.affc_ast.specs.declared.tree.Rel.{Rel}
-use Rattle.affc_ast.specs.declared.tree.Rel.TheVariants.{Less, LessEqual, Greater, GreaterEqual, Equal}
+use Rattle.affc_ast.specs.declared.tree.Rel.TheVariants.{Less, LessEqual, Greater, GreaterEqual, Equal, NotEqual}
+use Rattle.affc_ast.specs.Joined.{is_ordered}
 use Rattle.affc_grammar.specs.Grammar as g
-use Rattle.affc_grammar.specs.Grammar.{Symbol, Name, Digits, LineText, line_feed, text_end, Choice, minimum, maximum, remainder, Rounding, down, up, choice_name, rounding_name, is_divisor, is_shift, is_word_kind, is_mark_kind, op_mark, assign_mark, level_of, IxText, TermText, FactorText, AtomText, DimsText, CondsText, CondText, ValueText, StepText, LocalsText, StmtsText, StmtText, SimpleText, BodyText, ParamText, ParamsText, NamesText, DeclsText, FunctionText, IntText, PragmasText, Text, context_calls}
+use Rattle.affc_grammar.specs.Grammar.{Symbol, Name, Digits, LineText, line_feed, text_end, Choice, minimum, maximum, remainder, Rounding, down, up, choice_name, rounding_name, is_divisor, is_shift, is_word_kind, is_mark_kind, op_mark, assign_mark, level_of, IxText, TermText, FactorText, AtomText, DimsText, CondText, AllText, PrimText, ValueText, StepText, LocalsText, StmtsText, StmtText, SimpleText, BodyText, ParamText, ParamsText, NamesText, DeclsText, FunctionText, IntText, PragmasText, Text, context_calls}
 use Rattle.affc_grammar.specs.Reader.{Reader, give, fail, deep, after, either, on, all, Turn, going, done, until, and_on, inside, finished}
 
 -- ---- Tests of one token
@@ -166,57 +167,94 @@ dims_more prelude room _ ds = after (ix_inside prelude room) λ a. on (this_mark
 abbrev pub read_dims : (prelude : Bool) → (room : ℕ) → Reader Symbol (DimsText prelude)
 read_dims prelude room = all (this_mark (codes "[")) (dims_more prelude room) g.no_dims
 
--- ---- Conditions. What stands in parentheses may be conditions or an expression; what follows tells.
+-- behind the first "["
+abbrev pub dims_behind : (prelude : Bool) → (room : ℕ) → Reader Symbol (DimsText prelude)
+dims_behind prelude room = after (dims_more prelude room tt g.no_dims) (all (this_mark (codes "[")) (dims_more prelude room))
 
-pub data Half (prelude : Bool) : Type 0 where
-  condition : CondText prelude → Half prelude
-  expression : IxText prelude → Half prelude
+-- ---- Conditions. What stands in parentheses may be a condition or an expression; what follows tells.
 
-pub data Mixed (prelude : Bool) : Type 0 where
-  conditions : CondsText prelude → Mixed prelude
-  index : IxText prelude → Mixed prelude
+pub data Half (prelude wide : Bool) : Type 0 where
+  condition : PrimText prelude wide → Half prelude wide
+  expression : IxText prelude → Half prelude wide
 
-abbrev pub rel_of : Symbol → Option Rel
-rel_of = of_kind is_mark_kind (choose ((codes "<", Less) ∷ (codes "<=", LessEqual) ∷ (codes ">", Greater) ∷ (codes ">=", GreaterEqual) ∷ (codes "==", Equal) ∷ []))
+pub data Mixed (prelude wide : Bool) : Type 0 where
+  conditions : CondText prelude wide → Mixed prelude wide
+  index : IxText prelude → Mixed prelude wide
+
+abbrev pub rels : List (List ℕ × Rel)
+rels = (codes "<", Less) ∷ (codes "<=", LessEqual) ∷ (codes ">", Greater) ∷ (codes ">=", GreaterEqual) ∷ (codes "==", Equal) ∷ (codes "!=", NotEqual) ∷ []
+
+abbrev pub at_width : (wide : Bool) → Option Rel → Option ((rel : Rel) × IsTrue (wide || is_ordered rel))
+at_width wide None = None
+at_width wide (Some rel) = with_proof rel (holding (wide || is_ordered rel))
+
+abbrev pub rel_of : (wide : Bool) → Symbol → Option ((rel : Rel) × IsTrue (wide || is_ordered rel))
+rel_of wide = of_kind is_mark_kind (λ bytes. at_width wide (choose rels bytes))
+
+-- whether it is "=="
+abbrev pub zero_sign : Symbol → Option Bool
+zero_sign = of_kind is_mark_kind (choose ((codes "==", true) ∷ (codes "!=", false) ∷ []))
+
+abbrev pub zero_number : Symbol → Option (Unit {0})
+zero_number = of_kind is_number_kind (the_bytes (codes "0"))
+
+-- behind the "%" of a remainder
+abbrev pub read_remainder : {prelude : Bool} → TermText prelude → Reader Symbol (Half prelude true)
+read_remainder t = on divisor λ by. on zero_sign λ so. on zero_number λ _. give (condition (g.divisible refl t by.0 by.1 so))
+
+-- behind an expression that isn't compared: a single term may have a remainder
+abbrev pub read_divided : {prelude : Bool} (wide : Bool) → IxText prelude → Reader Symbol (Half prelude wide)
+read_divided true (g.term t) = either (this_mark (codes "%")) (λ _. read_remainder t) (give (expression (g.term t)))
+read_divided wide a = give (expression a)
 
 -- behind an expression
-abbrev pub read_compared : (prelude : Bool) → Reader Symbol (IxText prelude) → IxText prelude → Reader Symbol (Half prelude)
-read_compared prelude inner a = either rel_of (λ rel. after (read_sum prelude inner) λ b. give (condition (g.compared a rel b))) (give (expression a))
+abbrev pub read_compared : (prelude wide : Bool) → Reader Symbol (IxText prelude) → IxText prelude → Reader Symbol (Half prelude wide)
+read_compared prelude wide inner a = either (rel_of wide) (λ rel. after (read_sum prelude inner) λ b. give (condition (g.compared a rel.0 rel.1 b))) (read_divided wide a)
 
 -- behind what stands in parentheses
-abbrev pub read_closed : (prelude : Bool) → Reader Symbol (IxText prelude) → Mixed prelude → Reader Symbol (Half prelude)
-read_closed prelude inner (conditions cs) = give (condition (g.all_of cs))
-read_closed prelude inner (index a) = after (read_factors prelude inner (g.atom (g.grouped a))) λ b. after (read_terms prelude inner b) λ c. read_compared prelude inner c
+abbrev pub read_closed : (prelude wide : Bool) → Reader Symbol (IxText prelude) → Mixed prelude wide → Reader Symbol (Half prelude wide)
+read_closed prelude wide inner (conditions c) = give (condition (g.enclosed c))
+read_closed prelude wide inner (index a) = after (read_factors prelude inner (g.atom (g.grouped a))) λ b. after (read_terms prelude inner b) λ c. read_compared prelude wide inner c
 
-abbrev pub read_half : (prelude : Bool) → Reader Symbol (IxText prelude) → Reader Symbol (Mixed prelude) → Reader Symbol (Half prelude)
-read_half prelude inner mixed =
-    either (this_mark (codes "(")) (λ _. after mixed λ m. on (this_mark (codes ")")) λ _. read_closed prelude inner m)
-    (after (read_sum prelude inner) λ a. read_compared prelude inner a)
+abbrev pub read_half : (prelude wide : Bool) → Reader Symbol (IxText prelude) → Reader Symbol (Mixed prelude wide) → Reader Symbol (Half prelude wide)
+read_half prelude wide inner mixed =
+    either (this_mark (codes "(")) (λ _. after mixed λ m. on (this_mark (codes ")")) λ _. read_closed prelude wide inner m)
+    (after (read_sum prelude inner) λ a. read_compared prelude wide inner a)
 
-abbrev pub only_condition : {prelude : Bool} → Half prelude → Reader Symbol (CondText prelude)
-only_condition (condition c) = give c
+abbrev pub only_condition : {prelude wide : Bool} → Half prelude wide → Reader Symbol (PrimText prelude wide)
+only_condition (condition q) = give q
 only_condition (expression a) = fail
 
-abbrev pub read_cond : (prelude : Bool) → Reader Symbol (IxText prelude) → Reader Symbol (Mixed prelude) → Reader Symbol (CondText prelude)
-read_cond prelude inner mixed = after (read_half prelude inner mixed) only_condition
+abbrev pub read_prim : (prelude wide : Bool) → Reader Symbol (IxText prelude) → Reader Symbol (Mixed prelude wide) → Reader Symbol (PrimText prelude wide)
+read_prim prelude wide inner mixed = after (read_half prelude wide inner mixed) only_condition
 
-abbrev pub and_more : (prelude : Bool) → Reader Symbol (IxText prelude) → Reader Symbol (Mixed prelude) → Unit {0} → CondsText prelude → Reader Symbol (CondsText prelude)
-and_more prelude inner mixed _ cs = after (read_cond prelude inner mixed) λ c. give (g.and_cond cs c)
+abbrev pub and_more : (prelude wide : Bool) → Reader Symbol (IxText prelude) → Reader Symbol (Mixed prelude wide) → Unit {0} → AllText prelude wide → Reader Symbol (AllText prelude wide)
+and_more prelude wide inner mixed _ a = after (read_prim prelude wide inner mixed) λ q. give (g.and_prim a q)
 
--- further conditions
-abbrev pub read_ands : (prelude : Bool) → Reader Symbol (IxText prelude) → Reader Symbol (Mixed prelude) → CondText prelude → Reader Symbol (CondsText prelude)
-read_ands prelude inner mixed c = all (this_mark (codes "&&")) (and_more prelude inner mixed) (g.cond c)
+-- what further is joined by "&&"
+abbrev pub read_ands : (prelude wide : Bool) → Reader Symbol (IxText prelude) → Reader Symbol (Mixed prelude wide) → PrimText prelude wide → Reader Symbol (AllText prelude wide)
+read_ands prelude wide inner mixed q = all (this_mark (codes "&&")) (and_more prelude wide inner mixed) (g.prim q)
 
-abbrev pub read_half_more : (prelude : Bool) → Reader Symbol (IxText prelude) → Reader Symbol (Mixed prelude) → Half prelude → Reader Symbol (Mixed prelude)
-read_half_more prelude inner mixed (condition c) = after (read_ands prelude inner mixed c) λ cs. give (conditions cs)
-read_half_more prelude inner mixed (expression a) = give (index a)
+abbrev pub or_more : (prelude : Bool) → Reader Symbol (IxText prelude) → Reader Symbol (Mixed prelude true) → Unit {0} → CondText prelude true → Reader Symbol (CondText prelude true)
+or_more prelude inner mixed _ c = after (read_prim prelude true inner mixed) λ q. after (read_ands prelude true inner mixed q) λ a. give (g.or_all refl c a)
 
-unfoldable pub mixed_inside : (prelude : Bool) → (room : ℕ) → Reader Symbol (Mixed prelude)
-mixed_inside prelude zero = deep
-mixed_inside prelude (suc room) = after (read_half prelude (ix_inside prelude room) (mixed_inside prelude room)) (read_half_more prelude (ix_inside prelude room) (mixed_inside prelude room))
+-- what further is joined by "||"
+abbrev pub read_ors : (prelude wide : Bool) → Reader Symbol (IxText prelude) → Reader Symbol (Mixed prelude wide) → AllText prelude wide → Reader Symbol (CondText prelude wide)
+read_ors prelude true inner mixed a = all (this_mark (codes "||")) (or_more prelude inner mixed) (g.all_of a)
+read_ors prelude false inner mixed a = give (g.all_of a)
 
-abbrev pub read_conds : (prelude : Bool) → (room : ℕ) → Reader Symbol (CondsText prelude)
-read_conds prelude room = after (read_cond prelude (ix_inside prelude room) (mixed_inside prelude room)) (read_ands prelude (ix_inside prelude room) (mixed_inside prelude room))
+abbrev pub read_half_more : (prelude wide : Bool) → Reader Symbol (IxText prelude) → Reader Symbol (Mixed prelude wide) → Half prelude wide → Reader Symbol (Mixed prelude wide)
+read_half_more prelude wide inner mixed (condition q) = after (read_ands prelude wide inner mixed q) λ a. after (read_ors prelude wide inner mixed a) λ c. give (conditions c)
+read_half_more prelude wide inner mixed (expression a) = give (index a)
+
+unfoldable pub mixed_inside : (prelude wide : Bool) → (room : ℕ) → Reader Symbol (Mixed prelude wide)
+mixed_inside prelude wide zero = deep
+mixed_inside prelude wide (suc room) = after (read_half prelude wide (ix_inside prelude room) (mixed_inside prelude wide room)) (read_half_more prelude wide (ix_inside prelude room) (mixed_inside prelude wide room))
+
+abbrev pub read_cond : (prelude wide : Bool) → (room : ℕ) → Reader Symbol (CondText prelude wide)
+read_cond prelude wide room =
+    after (read_prim prelude wide (ix_inside prelude room) (mixed_inside prelude wide room)) λ q.
+    after (read_ands prelude wide (ix_inside prelude room) (mixed_inside prelude wide room) q) λ a. after (read_ors prelude wide (ix_inside prelude room) (mixed_inside prelude wide room) a) give
 
 -- ---- Values; `inner` reads one behind an opened bracket
 
@@ -306,29 +344,65 @@ assign_of = of_kind is_mark_kind (choose ((codes "=", None) ∷ (codes "+=", Som
 -- what stands before a body
 pub data Head (prelude : Bool) : Type 0 where
   for_head : (iterator : Name) → (low : IxText prelude) → (tested : Name) → (strict : Bool) → (high : IxText prelude) → StepText → Head prelude
-  if_head : CondsText prelude → Head prelude
+  if_head : CondText prelude true → Head prelude
+  -- an `if` with its body and the `else`
+  else_head : CondText prelude true → BodyText prelude false → Head prelude
 
 -- one before another, each of them the beginning of the body of the one before
 pub data Heads (prelude : Bool) : Type 0 where
   head : Head prelude → Heads prelude
   and_head : Heads prelude → Head prelude → Heads prelude
 
-abbrev pub with_body : {prelude : Bool} → Head prelude → BodyText prelude → SimpleText prelude
-with_body (for_head iterator low tested strict high step) body = g.for_loop iterator low tested strict high step body
-with_body (if_head cs) body = g.if_all cs body
-
-abbrev pub under : {prelude : Bool} → Heads prelude → BodyText prelude → SimpleText prelude
-under (head h) body = with_body h body
-under (and_head hs h) body = under hs (g.bare (with_body h body))
-
 -- after the heads before it, if there are any
 abbrev pub and_one : {prelude : Bool} → Option (Heads prelude) → Head prelude → Heads prelude
 and_one None h = head h
 and_one (Some hs) h = and_head hs h
 
-abbrev pub whole : {prelude : Bool} → Option (Heads prelude) → SimpleText prelude → SimpleText prelude
-whole None s = s
-whole (Some hs) s = under hs (g.bare s)
+-- an open statement under heads
+abbrev pub with_open : {prelude : Bool} → Head prelude → BodyText prelude true → SimpleText prelude true
+with_open (for_head iterator low tested strict high step) body = g.for_loop iterator low tested strict high step body
+with_open (if_head c) body = g.if_then c body
+with_open (else_head c body) other = g.if_else c body other
+
+abbrev pub under : {prelude : Bool} → Heads prelude → BodyText prelude true → SimpleText prelude true
+under (head h) body = with_open h body
+under (and_head hs h) body = under hs (g.bare (with_open h body))
+
+abbrev pub opened : {prelude : Bool} → Option (Heads prelude) → SimpleText prelude true → SimpleText prelude true
+opened None s = s
+opened (Some hs) s = under hs (g.bare s)
+
+-- what a body under heads makes: a closed statement, or one that waits for an `else`
+pub data Closing (prelude : Bool) : Type 0 where
+  closed : SimpleText prelude false → Closing prelude
+  -- the nearest `if` without `else`, and the heads before it
+  waiting : Option (Heads prelude) → CondText prelude true → BodyText prelude false → Closing prelude
+
+abbrev pub close : {prelude : Bool} → Heads prelude → BodyText prelude false → Closing prelude
+close (head (for_head iterator low tested strict high step)) body = closed (g.for_loop iterator low tested strict high step body)
+close (head (if_head c)) body = waiting None c body
+close (head (else_head c body)) other = closed (g.if_else c body other)
+close (and_head hs (for_head iterator low tested strict high step)) body = close hs (g.bare (g.for_loop iterator low tested strict high step body))
+close (and_head hs (if_head c)) body = waiting (Some hs) c body
+close (and_head hs (else_head c body)) other = close hs (g.bare (g.if_else c body other))
+
+abbrev pub close_one : {prelude : Bool} → Option (Heads prelude) → SimpleText prelude false → Closing prelude
+close_one None s = closed s
+close_one (Some hs) s = close hs (g.bare s)
+
+-- where no `else` follows
+abbrev pub settled : {prelude : Bool} → Closing prelude → StmtText prelude
+settled (closed s) = g.simple s
+settled (waiting hs c body) = g.simple (opened hs (g.if_then c body))
+
+-- what is read of statements: one, or an open one and then an assignment to an array `else`
+pub data Ended (prelude : Bool) : Type 0 where
+  one_stmt : StmtText prelude → Ended prelude
+  and_else : SimpleText prelude true → SimpleText prelude false → Ended prelude
+
+abbrev pub and_ended : {prelude : Bool} → StmtsText prelude → Ended prelude → StmtsText prelude
+and_ended ss (one_stmt s) = g.and_stmt ss s
+and_ended ss (and_else s t) = g.and_stmt (g.and_stmt ss (g.simple s)) (g.simple t)
 
 -- behind `for (`
 abbrev pub read_for : (prelude : Bool) → (room : ℕ) → Reader Symbol (Head prelude)
@@ -339,12 +413,30 @@ read_for prelude room =
 
 -- behind `if (`
 abbrev pub read_if : (prelude : Bool) → (room : ℕ) → Reader Symbol (Head prelude)
-read_if prelude room = after (inside (read_conds prelude) room) λ cs. on (this_mark (codes ")")) λ _. give (if_head cs)
+read_if prelude room = after (inside (read_cond prelude true) room) λ c. on (this_mark (codes ")")) λ _. give (if_head c)
+
+-- behind the operator of an assignment
+abbrev pub read_stored : (prelude : Bool) → (room : ℕ) → Name → DimsText prelude → Option Op → Reader Symbol (SimpleText prelude false)
+read_stored prelude room w ds op = after (read_value prelude room) λ v. on (this_mark (codes ";")) λ _. give (g.assign w ds op v)
 
 -- behind the first Word of an assignment
-abbrev pub read_assign : (prelude : Bool) → (room : ℕ) → Name → Reader Symbol (SimpleText prelude)
-read_assign prelude room w =
-    after (read_dims prelude room) λ ds. on assign_of λ op. after (read_value prelude room) λ v. on (this_mark (codes ";")) λ _. give (g.assign w ds op v)
+abbrev pub read_assign : (prelude : Bool) → (room : ℕ) → Name → Reader Symbol (SimpleText prelude false)
+read_assign prelude room w = after (read_dims prelude room) λ ds. on assign_of λ op. read_stored prelude room w ds op
+
+abbrev pub read_two : {prelude : Bool} → SimpleText prelude true → Reader Symbol (SimpleText prelude false) → Reader Symbol (Turn (Heads prelude) (Ended prelude))
+read_two s assigned = after assigned λ t. give (done (and_else s t))
+
+-- behind `else` after an open statement: it is an array where "[" or the operator of an assignment follows, else that of the nearest `if`
+abbrev pub read_else : (prelude : Bool) → (room : ℕ) → Option (Heads prelude) → CondText prelude true → BodyText prelude false → Reader Symbol (Turn (Heads prelude) (Ended prelude))
+read_else prelude room hs c body =
+    let s = opened hs (g.if_then c body) in
+    either (this_mark (codes "["))
+    (λ _. after (dims_behind prelude room) λ ds. on assign_of λ op. read_two s (read_stored prelude room (codes "else") ds op))
+    (either assign_of (λ op. read_two s (read_stored prelude room (codes "else") g.no_dims op)) (give (going (and_one hs (else_head c body)))))
+
+abbrev pub read_closing : (prelude : Bool) → (room : ℕ) → Closing prelude → Reader Symbol (Turn (Heads prelude) (Ended prelude))
+read_closing prelude room (closed s) = give (done (one_stmt (settled (closed s))))
+read_closing prelude room (waiting hs c body) = either (this_word (codes "else")) (λ _. read_else prelude room hs c body) (give (done (one_stmt (settled (waiting hs c body)))))
 
 -- whether it is `for`; else it is `if`
 abbrev pub head_words : List (List ℕ × Bool)
@@ -354,11 +446,11 @@ abbrev pub read_head : (prelude : Bool) → (room : ℕ) → (is_for : Bool) →
 read_head prelude room true = read_for prelude room
 read_head prelude room false = read_if prelude room
 
-abbrev pub assigned_under : (prelude : Bool) → (room : ℕ) → Option (Heads prelude) → Name → Reader Symbol (Turn (Heads prelude) (SimpleText prelude))
-assigned_under prelude room hs w = after (read_assign prelude room w) λ s. give (done (whole hs s))
+abbrev pub assigned_under : (prelude : Bool) → (room : ℕ) → Option (Heads prelude) → Name → Reader Symbol (Turn (Heads prelude) (Ended prelude))
+assigned_under prelude room hs w = after (read_assign prelude room w) λ s. read_closing prelude room (close_one hs s)
 
 -- behind a Word, which is a head's where a "(" follows; else it is the first of an assignment
-abbrev pub read_worded : (prelude : Bool) → (room : ℕ) → Option (Heads prelude) → Name → Option Bool → Reader Symbol (Turn (Heads prelude) (SimpleText prelude))
+abbrev pub read_worded : (prelude : Bool) → (room : ℕ) → Option (Heads prelude) → Name → Option Bool → Reader Symbol (Turn (Heads prelude) (Ended prelude))
 read_worded prelude room hs w None = assigned_under prelude room hs w
 read_worded prelude room hs w (Some is_for) = either (this_mark (codes "(")) (λ _. after (read_head prelude room is_for) λ h. give (going (and_one hs h))) (assigned_under prelude room hs w)
 
@@ -379,25 +471,25 @@ abbrev pub first_of : Symbol → Option First
 first_of s = word_or (any_word s) (brace_or_none (this_mark (codes "{") s))
 
 -- the first token of a body behind heads; `body` reads what stands behind its "{"
-abbrev pub read_body : (prelude : Bool) → (room : ℕ) → Reader Symbol (StmtsText prelude) → First → Heads prelude → Reader Symbol (Turn (Heads prelude) (SimpleText prelude))
+abbrev pub read_body : (prelude : Bool) → (room : ℕ) → Reader Symbol (StmtsText prelude) → First → Heads prelude → Reader Symbol (Turn (Heads prelude) (Ended prelude))
 read_body prelude room body (a_word w) hs = read_worded prelude room (Some hs) w (choose head_words w)
-read_body prelude room body a_brace hs = after body λ ss. give (done (under hs (g.braces ss)))
+read_body prelude room body a_brace hs = after body λ ss. read_closing prelude room (close hs (g.braces ss))
 
--- behind heads, or behind an assignment
-abbrev pub read_under : (prelude : Bool) → (room : ℕ) → Reader Symbol (StmtsText prelude) → Turn (Heads prelude) (SimpleText prelude) → Reader Symbol (SimpleText prelude)
+-- behind heads, or behind a statement
+abbrev pub read_under : (prelude : Bool) → (room : ℕ) → Reader Symbol (StmtsText prelude) → Turn (Heads prelude) (Ended prelude) → Reader Symbol (Ended prelude)
 read_under prelude room body = and_on (until first_of (read_body prelude room body))
 
 -- behind the first Word of a statement
-abbrev pub read_simple : (prelude : Bool) → (room : ℕ) → Reader Symbol (StmtsText prelude) → Name → Reader Symbol (SimpleText prelude)
+abbrev pub read_simple : (prelude : Bool) → (room : ℕ) → Reader Symbol (StmtsText prelude) → Name → Reader Symbol (Ended prelude)
 read_simple prelude room body w = after (read_worded prelude room None w (choose head_words w)) (read_under prelude room body)
 
 -- behind the first token of a statement; `block` reads what stands behind the "{" of a block
-abbrev pub read_stmt : (prelude : Bool) → (room : ℕ) → Reader Symbol (StmtsText prelude) → Reader Symbol (StmtText prelude) → First → Reader Symbol (StmtText prelude)
-read_stmt prelude room body block (a_word w) = after (read_simple prelude room body w) λ s. give (g.simple s)
-read_stmt prelude room body block a_brace = block
+abbrev pub read_stmt : (prelude : Bool) → (room : ℕ) → Reader Symbol (StmtsText prelude) → Reader Symbol (StmtText prelude) → First → Reader Symbol (Ended prelude)
+read_stmt prelude room body block (a_word w) = read_simple prelude room body w
+read_stmt prelude room body block a_brace = after block λ s. give (one_stmt s)
 
 abbrev pub stmt_more : (prelude : Bool) → (room : ℕ) → Reader Symbol (StmtsText prelude) → Reader Symbol (StmtText prelude) → First → StmtsText prelude → Reader Symbol (StmtsText prelude)
-stmt_more prelude room body block first ss = after (read_stmt prelude room body block first) λ s. give (g.and_stmt ss s)
+stmt_more prelude room body block first ss = after (read_stmt prelude room body block first) λ e. give (and_ended ss e)
 
 pub record Block (prelude : Bool) : Type 0 where
   pub locals : LocalsText prelude
@@ -407,7 +499,7 @@ abbrev pub local_behind : (room : ℕ) → LocalsText true → Reader Symbol (Bl
 local_behind room ls = on any_word λ w. on (this_mark (codes "=")) λ _. after (read_ix true room) λ a. on (this_mark (codes ";")) λ _. give (record { locals = g.and_local refl ls w a; stmts = g.no_stmts })
 
 abbrev pub block_stmt : (prelude : Bool) → (room : ℕ) → Reader Symbol (StmtsText prelude) → Reader Symbol (StmtText prelude) → LocalsText prelude → StmtsText prelude → First → Reader Symbol (Block prelude)
-block_stmt prelude room body block ls ss first = after (read_stmt prelude room body block first) λ s. give (record { locals = ls; stmts = g.and_stmt ss s })
+block_stmt prelude room body block ls ss first = after (read_stmt prelude room body block first) λ e. give (record { locals = ls; stmts = and_ended ss e })
 
 -- behind `const` in a block, which begins a local where no statement stands before and `int64_t` follows
 abbrev pub block_word : (prelude : Bool) → (room : ℕ) → Reader Symbol (StmtsText prelude) → Reader Symbol (StmtText prelude) → LocalsText prelude → StmtsText prelude → Name → (is_const : Bool) → Reader Symbol (Block prelude)
@@ -462,7 +554,7 @@ abbrev pub decl_behind : (prelude : Bool) → (room : ℕ) → DeclsText prelude
 decl_behind prelude room ds w = after (read_names prelude room w) λ ns. on (this_mark (codes ";")) λ _. give (record { decls = g.and_decl ds ns; stmts = g.no_stmts })
 
 abbrev pub inside_stmt : (prelude : Bool) → (room : ℕ) → DeclsText prelude → StmtsText prelude → First → Reader Symbol (Inside prelude)
-inside_stmt prelude room ds ss first = after (read_stmt prelude room (stmts_inside prelude room) (block_inside prelude room) first) λ s. give (record { decls = ds; stmts = g.and_stmt ss s })
+inside_stmt prelude room ds ss first = after (read_stmt prelude room (stmts_inside prelude room) (block_inside prelude room) first) λ e. give (record { decls = ds; stmts = and_ended ss e })
 
 -- behind `uint64_t`, which begins a declaration where no statement stands before and a Word follows
 abbrev pub inside_word : (prelude : Bool) → (room : ℕ) → DeclsText prelude → StmtsText prelude → Name → (is_type : Bool) → Reader Symbol (Inside prelude)
@@ -493,7 +585,7 @@ abbrev pub pragma_more : (room : ℕ) → Unit {0} → PragmasText → Reader Sy
 pragma_more room _ ps =
     on (this_word (codes "pragma")) λ _. on (this_word (codes "affc")) λ _.
     either (this_word (codes "param")) (λ _. on any_word λ w. after read_int λ low. after read_int λ high. on line_end λ line. give (g.and_range ps w low high line))
-    (on (this_word (codes "context")) λ _. after (read_conds true room) λ cs. on line_end λ line. give (g.and_context ps cs line))
+    (on (this_word (codes "context")) λ _. after (read_cond true false room) λ c. on line_end λ line. give (g.and_context ps c line))
 
 -- a text without the prelude, whose lines have no calls
 abbrev pub read_without : (room : ℕ) → LineText → (ps : PragmasText) → Option (IsTrue (not (context_calls ps))) → Reader Symbol Text

@@ -4,13 +4,14 @@
 ghost use Rattle.std.specs.Prelude.{◌≡◌, List, ◌∷◌, ◌++◌, [], length, true, false, codes, replicate, flat_map, Some, None, pos};
 ghost use Rattle.affc_lex.specs.declared.token.Kind.TheVariants.{LineEnd};
 ghost use Rattle.affc_ast.specs.Examples.{copying};
+ghost use Rattle.affc_ast.specs.declared.tree.Cond.TheVariants as cond;
 ghost use Rattle.affc_ast.specs.declared.tree.Ix.TheVariants as ix;
 ghost use Rattle.affc_ast.specs.declared.tree.Val.TheVariants as val;
 ghost use Rattle.affc_ast.specs.declared.tree.Stmt.TheVariants as stmt;
 ghost use Rattle.affc_ast.specs.declared.tree.Op.TheVariants as op;
-ghost use Rattle.affc_ast.specs.declared.tree.Rel.TheVariants.{Less, LessEqual, Greater, Equal};
+ghost use Rattle.affc_ast.specs.declared.tree.Rel.TheVariants.{Less, LessEqual, Greater, Equal, NotEqual};
 ghost use Rattle.affc_grammar.specs.declared.fault.NameWhy.TheVariants.{Unknown, Twice, Reserved, Const, Kind, NoRange};
-ghost use Rattle.affc_grammar.specs.declared.fault.LimitName.TheVariants.{Run, Depth, Items, Parameters, Range, Loops, Statements, Empty, Accesses, Dimensions, Comparisons, Literal, Coefficient};
+ghost use Rattle.affc_grammar.specs.declared.fault.LimitName.TheVariants.{Run, Depth, Items, Parameters, Range, Loops, Statements, Empty, Accesses, Dimensions, Comparisons, Literal, Coefficient, Pieces};
 ghost use Rattle.affc_grammar.specs.Grammar.{Symbol, word, mark, prelude_symbols, text_symbols};
 ghost use Rattle.affc_grammar.specs.Limits.{plain_limits, wide_limits, tokens_past, count_token, count_run, count_open, count_item};
 ghost use Rattle.affc_grammar.specs.Printed.{printed};
@@ -62,7 +63,30 @@ pub fn statements()
     ensures casts { is_read (verdict (around (codes "out [ 0 ] = ( uint64_t ) ( N ) ;"))) ≡ true }
     ensures no_cast { verdict (around (codes "out [ 0 ] = ( uint64_t ) + 1ULL ;")) ≡ name 38 Unknown }
     ensures keywords_are_words { verdict (around (codes "while [ 0 ] = 1ULL ;")) ≡ name 32 Unknown }
-    ensures else_is_a_word { verdict (around (codes "if ( N < 1 ) out [ 0 ] = 1ULL ; else b = 2ULL ;")) ≡ syntax 46 }
+    ensures else_is_a_word { verdict (around (codes "if ( N < 1 ) out [ 0 ] = 1ULL ; else = 2ULL ;")) ≡ name 45 Unknown }
+    ensures else_with_subscripts { verdict (around (codes "if ( N < 1 ) out [ 0 ] = 1ULL ; else [ 0 ] [ 1 ] += 2ULL ;")) ≡ name 45 Unknown }
+    ensures else_after_no_if { verdict (around (codes "else out [ 0 ] = 1ULL ;")) ≡ syntax 33 }
+    ensures else_has_a_body { verdict (around (codes "if ( N < 1 ) out [ 0 ] = 1ULL ; else ;")) ≡ syntax 46 }
+    ensures one_else { verdict (around (codes "if ( N < 1 ) out [ 0 ] = 1ULL ; else out [ 0 ] = 2ULL ; else out [ 0 ] = 3ULL ;")) ≡ syntax 54 }
+    ensures else_ifs { is_read (verdict (around (codes "if ( N < 1 ) out [ 0 ] = 1ULL ; else if ( N < 2 ) out [ 0 ] = 2ULL ; else { out [ 0 ] = 3ULL ; }"))) ≡ true }
+{}
+
+/// Which conditions an `if` and a line may have.
+pub fn conditions()
+    ensures any_of_all { is_read (verdict (around (codes "if ( N < 1 || N > 2 && N != 3 ) out [ 0 ] = 0ULL ;"))) ≡ true }
+    ensures any_in_parentheses { is_read (verdict (around (codes "if ( ( N < 1 || N > 2 ) && ( N ) != 3 ) out [ 0 ] = 0ULL ;"))) ≡ true }
+    ensures remainders { is_read (verdict (around (codes "if ( N % 2 == 0 && 2 * N % 3 != 0 ) out [ 0 ] = 0ULL ;"))) ≡ true }
+    ensures remainders_of_terms { verdict (around (codes "if ( N + 1 % 2 == 0 ) out [ 0 ] = 0ULL ;")) ≡ syntax 37 }
+    ensures remainders_of_sums { is_read (verdict (around (codes "if ( ( N + 1 ) % 2 != 0 ) out [ 0 ] = 0ULL ;"))) ≡ true }
+    ensures remainders_in_parentheses { is_read (verdict (around (codes "if ( ( ( N ) * 2 % 2 != 0 ) ) out [ 0 ] = 0ULL ;"))) ≡ true }
+    ensures remainders_are_no_expressions { verdict (around (codes "if ( ( N % 2 ) == 0 ) out [ 0 ] = 0ULL ;")) ≡ syntax 38 }
+    ensures remainders_by_at_least_one { verdict (around (codes "if ( N % 0 == 0 ) out [ 0 ] = 0ULL ;")) ≡ syntax 36 }
+    ensures remainders_are_zero_or_not { verdict (around (codes "if ( N % 2 == 1 ) out [ 0 ] = 0ULL ;")) ≡ syntax 38 }
+    ensures remainders_are_not_ordered { verdict (around (codes "if ( N % 2 < 0 ) out [ 0 ] = 0ULL ;")) ≡ syntax 37 }
+    ensures no_any_on_lines { verdict (line (codes "# include <stdint.h> \n # pragma affc param N 1 4 \n # pragma affc context N < 1 || N > 2 \n void f ( int64_t N ) { }")) ≡ syntax 19 }
+    ensures no_unequal_on_lines { verdict (line (codes "# include <stdint.h> \n # pragma affc param N 1 4 \n # pragma affc context N != 1 \n void f ( int64_t N ) { }")) ≡ syntax 17 }
+    ensures no_remainders_on_lines { verdict (line (codes "# include <stdint.h> \n # pragma affc param N 1 4 \n # pragma affc context N % 2 == 0 \n void f ( int64_t N ) { }")) ≡ syntax 17 }
+    ensures no_remainders_in_subscripts { verdict (around (codes "out [ N % 2 ] = 0ULL ;")) ≡ syntax 35 }
 {}
 
 /// Why a name is refused, and where.
@@ -202,6 +226,24 @@ pub fn limits_are_counted()
     ensures wide_comparisons { is_read (verdict (with_prelude (codes "if ( N < 9 " ++ flat_map (λ b. codes "&& N < 9 ") (replicate 32 true) ++ codes ") out [ 0 ] = 0ULL ;"))) ≡ true }
 {}
 
+/// Limits and rules that concern what an `if` may have.
+pub fn limits_of_conditions()
+    ensures sixteen_pieces { is_read (verdict (around (codes "if ( N != 1 && N != 2 && N != 3 && N != 4 ) out [ 0 ] = 0ULL ;"))) ≡ true }
+    ensures more_pieces { verdict (around (codes "if ( N != 1 && N != 2 && N != 3 && N != 4 && N != 5 ) out [ 0 ] = 0ULL ;")) ≡ limit 54 Pieces }
+    ensures pieces_of_the_denial { verdict (around (codes "if ( N == 1 || N == 2 || N == 3 || N == 4 || N == 5 ) out [ 0 ] = 0ULL ; else out [ 0 ] = 1ULL ;")) ≡ limit 62 Pieces }
+    ensures pieces_of_nested_ifs { verdict (around (codes "if ( N != 1 && N != 2 && N != 3 && N != 4 ) if ( N != 5 ) out [ 0 ] = 0ULL ;")) ≡ limit 56 Pieces }
+    ensures wide_pieces { is_read (verdict (with_prelude (codes "if ( N != 1 && N != 2 && N != 3 && N != 4 && N != 5 ) out [ 0 ] = 0ULL ;"))) ≡ true }
+    ensures comparisons_behind_else { is_read (verdict (around (codes "if ( N < 9 " ++ flat_map (λ b. codes "|| N < 9 ") (replicate 31 true) ++ codes ") { } else out [ 0 ] = 0ULL ;"))) ≡ true }
+    ensures too_many_comparisons_behind_else { verdict (around (codes "if ( N < 9 " ++ flat_map (λ b. codes "|| N < 9 ") (replicate 31 true) ++ codes ") { } else if ( N % 2 == 0 ) out [ 0 ] = 0ULL ;")) ≡ limit 173 Comparisons }
+    ensures greatest_divisor { is_read (verdict (around (codes "if ( N % 65536 == 0 ) out [ 0 ] = 0ULL ;"))) ≡ true }
+    ensures large_divisor { verdict (around (codes "if ( N % 65537 == 0 ) out [ 0 ] = 0ULL ;")) ≡ limit 36 Coefficient }
+    ensures wide_divisor { is_read (verdict (with_prelude (codes "if ( N % 4611686018427387904 == 0 ) out [ 0 ] = 0ULL ;"))) ≡ true }
+    ensures too_wide_divisor { verdict (with_prelude (codes "if ( N % 4611686018427387905 == 0 ) out [ 0 ] = 0ULL ;")) ≡ limit 37 Coefficient }
+    ensures assignment_behind_else { is_read (verdict (around (codes "if ( N < 2 ) { } else out [ 0 ] = 0ULL ;"))) ≡ true }
+    ensures empty_behind_else { verdict (around (codes "if ( N < 2 ) { } else { }")) ≡ limit 32 Empty }
+    ensures values_of_remainders { verdict (around (codes "if ( N * N % 2 == 0 ) out [ 0 ] = 0ULL ;")) ≡ product 35 }
+{}
+
 /// Limits on the tokens, at their edges.
 pub fn shape()
     ensures run { tokens_past count_run 2048 0 0 (replicate 2049 (word (codes "x"))) ≡ 2048 ∷ [] }
@@ -223,6 +265,7 @@ pub fn trees()
     ensures calls { (program_of (verdict (with_prelude (codes "out [ affc_min ( N , 1 ) ] = ( uint64_t ) ( affc_max ( affc_mod ( N , 2 ) , affc_floord ( N , 3 ) - affc_ceild ( N , 4 ) ) ) ;")))).body ≡ stmt.Assign None (record { 0 = 1 }) (ix.Min (ix.Name (record { 0 = 0 })) (ix.Lit (pos 1)) ∷ []) (val.Cast (ix.Max (ix.Mod (ix.Name (record { 0 = 0 })) (ix.Lit (pos 2))) (ix.Sub (ix.Floord (ix.Name (record { 0 = 0 })) (pos 3)) (ix.Ceild (ix.Name (record { 0 = 0 })) (pos 4))))) ∷ [] }
     ensures operators { (program_of (verdict (around (codes "out [ 0 ] -= 1ULL | 2ULL ^ 3ULL & 4ULL + 5ULL * 6ULL - 7ULL >> 8 ;")))).body ≡ stmt.Assign (Some op.Sub) (record { 0 = 1 }) (ix.Lit (pos 0) ∷ []) (val.Bin op.Or (val.Const 1) (val.Bin op.Xor (val.Const 2) (val.Bin op.And (val.Const 3) (val.Shift false (val.Bin op.Sub (val.Bin op.Add (val.Const 4) (val.Bin op.Mul (val.Const 5) (val.Const 6))) (val.Const 7)) 8)))) ∷ [] }
     ensures numbers { (program_of (verdict (with_prelude (codes "uint64_t t ; for ( int64_t i = 0 ; i < N ; i ++ ) { { const int64_t a = i ; t = in [ a ] ; } for ( int64_t j = i ; j <= N ; j ++ ) out [ j ] = t ; }")))).body ≡ stmt.For (codes "i") (ix.Lit (pos 0)) Less (ix.Name (record { 0 = 0 })) (stmt.Block (record { name = codes "a"; value = ix.Name (record { 0 = 1 }) } ∷ []) (stmt.Assign None (record { 0 = 2 }) [] (val.Load (record { 0 = 0 }) (ix.Name (record { 0 = 2 }) ∷ [])) ∷ []) ∷ stmt.For (codes "j") (ix.Name (record { 0 = 1 })) LessEqual (ix.Name (record { 0 = 0 })) (stmt.Assign None (record { 0 = 1 }) (ix.Name (record { 0 = 2 }) ∷ []) (val.Load (record { 0 = 2 }) []) ∷ []) ∷ []) ∷ [] }
+    ensures conditions { (program_of (verdict (around (codes "if ( N < 1 && ( N % 2 == 0 || N != 3 ) ) out [ 0 ] = 0ULL ; else out [ 0 ] = 1ULL ;")))).body ≡ stmt.If (cond.All (cond.Compare Less (ix.Name (record { 0 = 0 })) (ix.Lit (pos 1)) ∷ cond.Any (cond.Divides (ix.Name (record { 0 = 0 })) (pos 2) true ∷ cond.Compare NotEqual (ix.Name (record { 0 = 0 })) (ix.Lit (pos 3)) ∷ []) ∷ [])) (stmt.Assign None (record { 0 = 1 }) (ix.Lit (pos 0) ∷ []) (val.Const 0) ∷ []) (stmt.Assign None (record { 0 = 1 }) (ix.Lit (pos 0) ∷ []) (val.Const 1) ∷ []) ∷ [] }
     ensures context_in_order { (program_of (verdict (line (codes "# include <stdint.h> \n # pragma affc param N 1 4 \n # pragma affc context N < 4 && N > 1 \n # pragma affc context N == 2 \n void f ( int64_t N ) { }")))).context ≡ record { rel = Less; left = ix.Name (record { 0 = 0 }); right = ix.Lit (pos 4) } ∷ record { rel = Greater; left = ix.Name (record { 0 = 0 }); right = ix.Lit (pos 1) } ∷ record { rel = Equal; left = ix.Name (record { 0 = 0 }); right = ix.Lit (pos 2) } ∷ [] }
 {}
 
@@ -239,4 +282,15 @@ pub fn printing()
     ensures products { reprinted (around (codes "out [ 3 * ( - N ) ] = ( uint64_t ) ( - N ) ;")) ≡ around (codes "out [ 3 * ( - N ) ] = ( uint64_t ) ( - N ) ;") }
     ensures braces { reprinted (around (codes "if ( ( ( N ) > 1 ) ) out [ 0 ] = ( ( in [ 0 ] ) ) ;")) ≡ around (codes "if ( N > 1 ) { out [ 0 ] = in [ 0 ] ; }") }
     ensures calls_under_minus { reprinted (with_prelude (codes "out [ - ( affc_min ( N , 1 ) ) ] = 0ULL ;")) ≡ with_prelude (codes "out [ - ( affc_min ( N , 1 ) ) ] = 0ULL ;") }
+{}
+
+/// How conditions and `else` are printed, and to which `if` an `else` belongs.
+pub fn printing_of_conditions()
+    ensures nearest_if { reprinted (around (codes "if ( N < 2 ) if ( N < 3 ) out [ 0 ] = 0ULL ; else out [ 0 ] = 1ULL ;")) ≡ around (codes "if ( N < 2 ) { if ( N < 3 ) { out [ 0 ] = 0ULL ; } else { out [ 0 ] = 1ULL ; } }") }
+    ensures nearest_if_under_a_loop { reprinted (around (codes "if ( N < 2 ) for ( int64_t i = 0 ; i < 1 ; i ++ ) if ( i < 3 ) out [ 0 ] = 0ULL ; else out [ 0 ] = 1ULL ;")) ≡ around (codes "if ( N < 2 ) { for ( int64_t i = 0 ; i < 1 ; i ++ ) { if ( i < 3 ) { out [ 0 ] = 0ULL ; } else { out [ 0 ] = 1ULL ; } } }") }
+    ensures outer_if { reprinted (around (codes "if ( N < 2 ) { if ( N < 3 ) out [ 0 ] = 0ULL ; } else out [ 0 ] = 1ULL ;")) ≡ around (codes "if ( N < 2 ) { if ( N < 3 ) { out [ 0 ] = 0ULL ; } } else { out [ 0 ] = 1ULL ; }") }
+    ensures both_ifs { reprinted (around (codes "if ( N < 2 ) if ( N < 3 ) out [ 0 ] = 0ULL ; else out [ 0 ] = 1ULL ; else out [ 0 ] = 2ULL ;")) ≡ around (codes "if ( N < 2 ) { if ( N < 3 ) { out [ 0 ] = 0ULL ; } else { out [ 0 ] = 1ULL ; } } else { out [ 0 ] = 2ULL ; }") }
+    ensures conditions { reprinted (around (codes "if ( ( N < 1 || ( N > 2 || N != 3 ) ) && ( N % 2 == 0 && N < 3 ) ) out [ 0 ] = 0ULL ;")) ≡ around (codes "if ( ( N < 1 || N > 2 || N != 3 ) && N % 2 == 0 && N < 3 ) { out [ 0 ] = 0ULL ; }") }
+    ensures all_in_any { reprinted (around (codes "if ( ( N < 1 && N > 2 ) || N == 3 ) out [ 0 ] = 0ULL ;")) ≡ around (codes "if ( N < 1 && N > 2 || N == 3 ) { out [ 0 ] = 0ULL ; }") }
+    ensures remainders { reprinted (around (codes "if ( ( 2 * N ) % 3 == 0 && ( N + 1 ) % 2 != 0 && ( - N ) % 4 == 0 ) out [ 0 ] = 0ULL ;")) ≡ around (codes "if ( 2 * N % 3 == 0 && ( N + 1 ) % 2 != 0 && ( - N ) % 4 == 0 ) { out [ 0 ] = 0ULL ; }") }
 {}

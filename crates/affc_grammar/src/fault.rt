@@ -36,4 +36,5 @@ pub enum LimitName {
     Comparisons,
     Literal,
     Coefficient,
+    Pieces,
 }

@@ -6,6 +6,8 @@ pub mod QuotientLaws
 pub mod TextLaws
 pub mod TermLaws
 pub mod PartLaws
+pub mod ConditionLaws
+pub mod DivisorLaws
 pub mod AssignmentLaws
 pub mod LineLaws
 pub mod NearestLaws

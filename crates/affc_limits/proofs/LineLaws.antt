@@ -8,8 +8,8 @@ use Rattle.affc_limits.specs.declared.rests.Rest.{Rest}
 use Rattle.affc_limits.specs.Places.{least, lesser, place_if}
 use Rattle.affc_limits.specs.Rests.{rest_of, next}
 use Rattle.affc_limits.specs.Lines.{with_param, with_decl, with_array, with_range, with_context}
-use Rattle.affc_limits.proofs.PlaceLaws.{lesser_assoc, least-append, least_if}
-use Rattle.affc_limits.proofs.AssignmentLaws.{lesser_none, rest_all}
+use Rattle.affc_limits.proofs.PlaceLaws.{lesser_assoc, lesser-none, least-append, least_if}
+use Rattle.affc_limits.proofs.AssignmentLaws.{rest_all}
 
 -- behind a loop
 pub passed_all : {A B C : Type 0} (step : A → B → A) (seen : C → B) (start at : A) (xs : List C) (i : ℕ) → length xs ≤ i → fold step at (map seen (drop i xs)) ≡ fold step start (map seen xs) → at ≡ fold step start (map seen xs)
@@ -31,10 +31,10 @@ places ks = map (λ d. d.word.at) (filter wide ks)
 
 kept_one : (b : Bool) (found : Option ℕ) (k : d.DeclDraft) (ks : List d.DeclDraft) → lesser (lesser found (place_if b k.word.at)) (least (map (λ d. d.word.at) ks)) ≡ lesser found (least (map (λ d. d.word.at) (cond b (k ∷ ks) ks)))
 kept_one true found k ks = sym (lesser_assoc found (Some k.word.at) (least (map (λ d. d.word.at) ks)))
-kept_one false found k ks = ap (λ o. lesser o (least (map (λ d. d.word.at) ks))) (lesser_none found)
+kept_one false found k ks = ap (λ o. lesser o (least (map (λ d. d.word.at) ks))) (lesser-none found)
 
 pub decls_are : (found : Option ℕ) (ks : List d.DeclDraft) → fold with_decl found ks ≡ lesser found (least (places ks))
-decls_are found [] = sym (lesser_none found)
+decls_are found [] = sym (lesser-none found)
 decls_are found (k ∷ ks) = decls_are (with_decl found k) ks ∙ kept_one (wide k) found k (filter wide ks)
 
 pub arrays_are : (found : Option ℕ) (ps : List d.ParamDraft) → fold with_array found ps ≡ fold with_decl found (param_decls ps)
@@ -55,7 +55,7 @@ kept-append (x ∷ xs) ys = by_test (wide x) (kept-append xs ys)
 pub ruleset kept_laws = (kept-append)
 
 pub ranges_are : (found : Option ℕ) (ps : List d.PragmaDraft) → fold with_range found ps ≡ lesser found (least (ranges_past ps))
-ranges_are found [] = sym (lesser_none found)
+ranges_are found [] = sym (lesser-none found)
 ranges_are found (d.range w low_at low high ∷ ps) =
     let t = not (is_range low high) in
     ranges_are (lesser found (place_if t low_at)) ps
@@ -67,7 +67,7 @@ counted_down : (n k left : ℕ) → left ≡ 17 - n → ((left - k) == 0) ≡ na
 counted_down n k left e = grind (arith, nat_tests)
 
 pub contexts_are : (n left : ℕ) (found : Option ℕ) (ps : List d.PragmaDraft) → left ≡ 17 - n → (fold with_context (record { left = left; found = found }) ps).found ≡ lesser found (least (contexts_past n ps))
-contexts_are n left found [] e = sym (lesser_none found)
+contexts_are n left found [] e = sym (lesser-none found)
 contexts_are n left found (d.range w low_at low high ∷ ps) e = contexts_are n left found ps e
 contexts_are n left found (d.context at cs ∷ ps) e =
     let t = nat_lt 16 (n + length cs) in

@@ -51,7 +51,12 @@ none_kept : (xs : List Assigned) → filter (λ a. false) xs ≡ []
 none_kept [] = refl
 none_kept (x ∷ xs) = none_kept xs
 
-pub compared_is : (has_prelude : Bool) (place : Option ℕ) (xs : List Assigned) → place ≡ least (map (λ a. a.at) (filter (λ a. nat_lt 32 a.comparisons) xs))
-    → unless has_prelude place ≡ least (map (λ a. a.at) (filter (λ a. passes ((limits_of has_prelude).comparisons) a.comparisons) xs))
+pub compared_is : (has_prelude : Bool) (place : Option ℕ) (xs : List Assigned) → place ≡ least (map (λ a. a.at) (filter (λ a. nat_lt 32 a.round.comparisons) xs))
+    → unless has_prelude place ≡ least (map (λ a. a.at) (filter (λ a. passes ((limits_of has_prelude).comparisons) a.round.comparisons) xs))
 compared_is true place xs is = sym (ap (λ ys. least (map (λ a. a.at) ys)) (none_kept xs))
 compared_is false place xs is = is
+
+pub pieces_is : (has_prelude : Bool) (place : Option ℕ) (xs : List Assigned) → place ≡ least (map (λ a. a.at) (filter (λ a. nat_lt 16 a.round.pieces) xs))
+    → unless has_prelude place ≡ least (map (λ a. a.at) (filter (λ a. passes ((limits_of has_prelude).pieces) a.round.pieces) xs))
+pieces_is true place xs is = sym (ap (λ ys. least (map (λ a. a.at) ys)) (none_kept xs))
+pieces_is false place xs is = is

@@ -1,5 +1,5 @@
 -- The first place and the least place of two lists.
-use Rattle.std.proofs.Common.{◌≡◌, ℕ, suc, Bool, true, false, ◌&&◌, ◌||◌, cond, nat_le, nat_lt, List, [], ◌∷◌, ◌++◌, length, Option, Some, None, refl, sym, ap, ◌∙◌, arith, ◌<◌, ◌+◌, get_or, take, map, add-one}
+use Rattle.std.proofs.Common.{◌≡◌, ℕ, suc, Bool, true, false, ◌&&◌, ◌||◌, cond, nat_le, nat_lt, List, [], ◌∷◌, ◌++◌, length, Option, Some, None, refl, sym, ap, ◌∙◌, arith, ◌<◌, ◌+◌, get_or, take, map, fold, add-one}
 use Rattle.std.proofs.lemmas.Bool.Decides.{nat_tests}
 use Rattle.affc_grammar.specs.Grammar as g
 use Rattle.affc_grammar.specs.Draft as d
@@ -15,7 +15,7 @@ use Rattle.affc_syntax.specs.draft.Drafts.{ix}
 use Rattle.affc_grammar.specs.Limits.{at_if, names_in, products_in, holds_names}
 use Rattle.affc_limits.specs.declared.forms.Behind.{Behind}
 use Rattle.affc_limits.specs.declared.forms.Factors.{Factors}
-use Rattle.affc_limits.specs.Places.{first, first_of, lesser, least, place_if, products, both_products, product_products, closed, before_part, before_side}
+use Rattle.affc_limits.specs.Places.{first, first_of, lesser, least, place_if, products, both_products, product_products, closed, before_part, before_side, with_places}
 
 pub first-append : (xs ys : List ℕ) → first (xs ++ ys) ≡ first_of (first xs) (first ys)
 first-append [] ys = refl
@@ -222,3 +222,11 @@ first_turn f es i e lt is =
     sym (first-snoc f (map ix (take i es)) (ix e))
     ∙ ap (λ l. first (flat_map f l)) (sym (map-append ix (take i es) (e ∷ [])))
     ∙ ap (λ l. first (flat_map f (map ix l))) (ap (λ x. take i es ++ x ∷ []) is ∙ sym (take-suc es i e lt) ∙ ap (λ n. take n es) (sym (add-one i)))
+
+-- the places of things, one after another
+pub places_all : {B : Type 0} (places : B → List ℕ) (found : Option ℕ) (bs : List B) → fold (with_places places) found bs ≡ lesser found (least (flat_map places bs))
+places_all places found [] = sym (lesser-none found)
+places_all places found (b ∷ bs) =
+    places_all places (lesser found (least (places b))) bs
+    ∙ sym (lesser_assoc found (least (places b)) (least (flat_map places bs)))
+    ∙ ap (lesser found) (sym (least-append (places b) (flat_map places bs)))

@@ -3,17 +3,18 @@ use Rattle.std.proofs.Common.{◌≡◌, ℕ, ◌≤◌, List, [], ◌∷◌, �
 use Rattle.std.proofs.lemmas.List.{drop_all, append-nil}
 use Rattle.affc_ast.specs.declared.tree.Op.{Op}
 use Rattle.affc_grammar.specs.Draft as d
-use Rattle.affc_grammar.specs.Limits.{sides, stmt_texts, stmts_texts, value_texts}
+use Rattle.affc_grammar.specs.Limits.{cond_texts, conds_texts, stmt_texts, stmts_texts, value_texts}
 use Rattle.affc_syntax.specs.declared.draft.draft.StmtDraft as code
 use Rattle.affc_syntax.specs.declared.draft.draft.StmtDraft.TheVariants as s
 use Rattle.affc_syntax.specs.declared.draft.draft.HeadDraft.{HeadDraft}
-use Rattle.affc_syntax.specs.declared.draft.draft.CompareDraft.{CompareDraft}
+use Rattle.affc_syntax.specs.declared.draft.draft.CondDraft.{CondDraft}
+use Rattle.affc_syntax.specs.declared.draft.draft.CondDraft.TheVariants as k
 use Rattle.affc_syntax.specs.declared.draft.draft.LocalDraft.{LocalDraft}
 use Rattle.affc_syntax.specs.declared.draft.draft.WordDraft.{WordDraft}
 use Rattle.affc_syntax.specs.declared.draft.draft.IxDraft.{IxDraft}
 use Rattle.affc_syntax.specs.declared.draft.draft.ValueDraft.{ValueDraft}
-use Rattle.affc_syntax.proofs.draft.Outs.{stmt-For, stmt-If, stmt-Block}
-use Rattle.affc_syntax.specs.draft.Drafts.{stmts_of, stmts_after, stmt, ix, compare, local, value}
+use Rattle.affc_syntax.proofs.draft.Outs.{cond-All, cond-Any, stmt-For, stmt-If, stmt-Block}
+use Rattle.affc_syntax.specs.draft.Drafts.{conds_of, conds_after, cond, stmts_of, stmts_after, stmt, ix, local, value}
 use Rattle.affc_limits.specs.declared.texts.Rule.{Rule}
 use Rattle.affc_limits.specs.declared.texts.Rule.TheVariants.{Products, Literals, Coefficients}
 use Rattle.affc_limits.specs.Texts.{places_in, place_by, pick, found, with_found, step}
@@ -105,6 +106,21 @@ texts_after ss (x ∷ xs) = texts_after (d.and_stmt ss x) xs ∙ append_assoc (s
 pub texts_of : (xs : List d.StmtDraft) → stmts_texts (stmts_of xs) ≡ flat_map stmt_texts xs
 texts_of xs = texts_after d.no_stmts xs
 
+-- ---- Conditions
+
+conds_texts_after : (cs : d.CondsDraft) (xs : List d.CondDraft) → conds_texts (conds_after cs xs) ≡ conds_texts cs ++ flat_map cond_texts xs
+conds_texts_after cs [] = sym (append-nil (conds_texts cs))
+conds_texts_after cs (x ∷ xs) = conds_texts_after (d.and_cond cs x) xs ∙ append_assoc (conds_texts cs) (cond_texts x) (flat_map cond_texts xs)
+
+pub conds_texts_of : (xs : List d.CondDraft) → conds_texts (conds_of xs) ≡ flat_map cond_texts xs
+conds_texts_of xs = conds_texts_after d.no_conds xs
+
+pub of_all : (rule : Rule) (a : Option ℕ) (x : CondDraft) (cs : List CondDraft) → x ≡ k.All cs → with_found rule a (conds_texts (conds_of (map cond cs))) ≡ with_found rule a (cond_texts (cond x))
+of_all rule a x cs is = ap (λ y. with_found rule a (cond_texts y)) (sym (cond-All cs)) ∙ ap (λ y. with_found rule a (cond_texts (cond y))) (sym is)
+
+pub of_any : (rule : Rule) (a : Option ℕ) (x : CondDraft) (cs : List CondDraft) → x ≡ k.Any cs → with_found rule a (conds_texts (conds_of (map cond cs))) ≡ with_found rule a (cond_texts (cond x))
+of_any rule a x cs is = ap (λ y. with_found rule a (cond_texts y)) (sym (cond-Any cs)) ∙ ap (λ y. with_found rule a (cond_texts (cond y))) (sym is)
+
 -- ---- Statements
 
 pub of_for : (rule : Rule) (a : Option ℕ) (x : code.StmtDraft) (h : HeadDraft) (body : List code.StmtDraft) → x ≡ s.For h body
@@ -114,11 +130,15 @@ of_for rule a x h body is =
     ∙ ap (λ y. with_found rule a (stmt_texts y)) (sym (stmt-For h body))
     ∙ ap (λ y. with_found rule a (stmt_texts (stmt y))) (sym is)
 
-pub of_if : (rule : Rule) (a : Option ℕ) (x : code.StmtDraft) (at : ℕ) (conds : List CompareDraft) (body : List code.StmtDraft) → x ≡ s.If at conds body
-    → with_found rule (with_found rule a (flat_map sides (map compare conds))) (stmts_texts (stmts_of (map stmt body))) ≡ with_found rule a (stmt_texts (stmt x))
-of_if rule a x at conds body is =
-    sym (with-append rule a (flat_map sides (map compare conds)) (stmts_texts (stmts_of (map stmt body))))
-    ∙ ap (λ y. with_found rule a (stmt_texts y)) (sym (stmt-If at conds body))
+pub of_if : (rule : Rule) (a : Option ℕ) (x : code.StmtDraft) (at : ℕ) (c : CondDraft) (body other : List code.StmtDraft) → x ≡ s.If at c body other
+    → with_found rule (with_found rule (with_found rule a (cond_texts (cond c))) (stmts_texts (stmts_of (map stmt body)))) (stmts_texts (stmts_of (map stmt other))) ≡ with_found rule a (stmt_texts (stmt x))
+of_if rule a x at c body other is =
+    let tests = cond_texts (cond c) in
+    let inside = stmts_texts (stmts_of (map stmt body)) in
+    let behind = stmts_texts (stmts_of (map stmt other)) in
+    ap (λ o. with_found rule o behind) (sym (with-append rule a tests inside))
+    ∙ sym (with-append rule a (tests ++ inside) behind)
+    ∙ ap (λ y. with_found rule a (stmt_texts y)) (sym (stmt-If at c body other))
     ∙ ap (λ y. with_found rule a (stmt_texts (stmt y))) (sym is)
 
 pub of_block : (rule : Rule) (a : Option ℕ) (x : code.StmtDraft) (locals : List LocalDraft) (body : List code.StmtDraft) → x ≡ s.Block locals body

@@ -1,14 +1,14 @@
 -- Whether statements hold an assignment, the least place of a `for` or `if` in them that holds none, and that of a `for` that is one too many round one.
 use Rattle.std.specs.Prelude.{ℕ, ◌==◌, nat_lt, false, not, ◌&&◌, ◌||◌, List, [], ◌∷◌, length, Option, None}
 use Rattle.affc_grammar.specs.Draft as d
-use Rattle.affc_grammar.specs.Limits.{assigned_in, empty_bodies, empty_bodies_in, has_assignment, loops_past, loops_past_in}
+use Rattle.affc_grammar.specs.Limits.{no_round, assigned_in, empty_bodies, empty_bodies_in, has_assignment, loops_past, loops_past_in}
 use Rattle.affc_limits.specs.declared.bodies.Bodies.{Bodies}
 use Rattle.affc_syntax.specs.draft.Drafts.{stmts_of}
 use Rattle.affc_limits.specs.Places.{least, lesser, place_if}
 
 -- where `left` loops more may stand round an assignment
 abbrev pub bodies : (left : ℕ) → d.StmtDraft → Bodies
-bodies left s = record { assigns = nat_lt 0 (length (assigned_in 0 s)); empty = least (empty_bodies_in s); loops = least (loops_past_in left 0 s) }
+bodies left s = record { assigns = nat_lt 0 (length (assigned_in no_round s)); empty = least (empty_bodies_in s); loops = least (loops_past_in left 0 s) }
 
 abbrev pub all_bodies : (left : ℕ) → List d.StmtDraft → Bodies
 all_bodies left xs = record { assigns = has_assignment (stmts_of xs); empty = least (empty_bodies (stmts_of xs)); loops = least (loops_past left 0 (stmts_of xs)) }
@@ -20,7 +20,7 @@ both a b = record { assigns = a.assigns || b.assigns; empty = lesser a.empty b.e
 abbrev pub empty_at : (at : ℕ) → Bodies → Option ℕ
 empty_at at a = lesser (place_if (not a.assigns) at) a.empty
 
--- of an `if` with this word, whose body holds so much
+-- of an `if` with this word, which with what follows its `else` holds so much
 abbrev pub under_if : (at : ℕ) → Bodies → Bodies
 under_if at a = record { assigns = a.assigns; empty = empty_at at a; loops = a.loops }
 

@@ -7,6 +7,7 @@ pub mod Terms
 pub mod Coefficients
 pub mod Parts
 pub mod Rests
+pub mod Conditions
 pub mod Assignments
 pub mod Lines
 pub mod Nearest

@@ -54,3 +54,7 @@ before_part a k = record { has_names = a.has_names || k.has_names; if_named = fi
 -- and a "*" in front of it
 abbrev pub before_side : ℕ → Factors → Behind → Behind
 before_side at a k = record { has_names = a.has_names || k.has_names; if_named = first_of (place_if a.has_names at) (first_of a.first_refused k.if_named); if_bare = (closed a k).first_refused }
+
+-- with the places of one thing more
+abbrev pub with_places : {B : Type 0} → (B → List ℕ) → Option ℕ → B → Option ℕ
+with_places places found b = lesser found (least (places b))

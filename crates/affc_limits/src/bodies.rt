@@ -74,9 +74,15 @@ fn bodies_of(left: usize, s: &StmtDraft) -> Bodies
             let inside = bodies_of_all(left.saturating_sub(1), body.as_slice());
             under_for(left, head.at, inside)
         }
-        StmtDraft::If { at, body, .. } => {
+        StmtDraft::If {
+            at,
+            body,
+            other,
+            ..
+        } => {
             let inside = bodies_of_all(left, body.as_slice());
-            under_if(*at, inside)
+            let behind = bodies_of_all(left, other.as_slice());
+            under_if(*at, both(inside, behind))
         }
         StmtDraft::Assign { .. } => Bodies {
             assigns: true,

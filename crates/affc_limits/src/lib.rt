@@ -4,6 +4,8 @@
 mod assignments;
 mod bodies;
 mod coefficients;
+mod conditions;
+mod divisors;
 mod forms;
 pub mod limits;
 mod lines;

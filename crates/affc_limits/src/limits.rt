@@ -11,6 +11,7 @@ ghost use Rattle.affc_limits.specs.Places.{least};
 
 use crate::assignments::tally_of;
 use crate::bodies::bodies_of_all;
+use crate::divisors::divisors_past;
 use crate::lines::{contexts_past, dimensions_past, parameters_past, ranges_past};
 use crate::texts::{Rule, in_text};
 use affc_grammar::fault::LimitName;
@@ -59,6 +60,16 @@ fn literal_limit(has_prelude: bool) -> u64
     }
 }
 
+fn divisor_limit(has_prelude: bool) -> u64
+    ensures { result ≡ (limits_of has_prelude).divisor }
+{
+    if has_prelude {
+        4611686018427387904
+    } else {
+        65536
+    }
+}
+
 fn literal_place(has_prelude: bool, draft: &TextDraft) -> Result<Option<usize>, AllocError>
     ensures { IfOk result (λ p. p ≡ least (flat_map (literals_past ((limits_of has_prelude).literal)) (affine_texts (text draft.now)))) }
 {
@@ -94,8 +105,10 @@ pub fn limit_fault(
     let tally = tally_of(body);
     let literals = literal_place(has_prelude, draft)?;
     let coefficients = coefficient_place(alloc, has_prelude, draft)?;
+    let divisors = divisors_past(divisor_limit(has_prelude), body);
     let empty = unless(has_prelude, bodies.empty);
     let compared = unless(has_prelude, tally.comparisons);
+    let pieces = unless(has_prelude, tally.pieces);
     let a = with_limit(None, LimitName::Parameters, parameters_past(params));
     let b = with_limit(a, LimitName::Range, ranges_past(lines));
     let c = with_limit(b, LimitName::Loops, bodies.loops);
@@ -106,5 +119,7 @@ pub fn limit_fault(
     let h = with_limit(g, LimitName::Comparisons, contexts_past(lines));
     let i = with_limit(h, LimitName::Comparisons, compared);
     let j = with_limit(i, LimitName::Literal, literals);
-    Ok(with_limit(j, LimitName::Coefficient, coefficients))
+    let k = with_limit(j, LimitName::Coefficient, coefficients);
+    let l = with_limit(k, LimitName::Coefficient, divisors);
+    Ok(with_limit(l, LimitName::Pieces, pieces))
 }

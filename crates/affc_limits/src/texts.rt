@@ -1,8 +1,8 @@
 //! What is looked for in all whole-number expressions of a text.
 
 ghost use Rattle.std.specs.Prelude.{◌≡◌, [], ◌∷◌, map, flat_map, IfOk, IsOk, IsTrue};
-ghost use Rattle.affc_grammar.specs.Limits.{affine_texts, param_texts, pragma_texts, sides, stmt_texts, stmts_texts, value_texts, products_of_names};
-ghost use Rattle.affc_syntax.specs.draft.Drafts.{compare, decl, ix, local, param, pragma, stmt, stmts_of, text, value};
+ghost use Rattle.affc_grammar.specs.Limits.{affine_texts, cond_texts, conds_texts, param_texts, pragma_texts, sides, stmt_texts, stmts_texts, value_texts, products_of_names};
+ghost use Rattle.affc_syntax.specs.draft.Drafts.{compare, cond, conds_of, decl, ix, local, param, pragma, stmt, stmts_of, text, value};
 ghost use Rattle.affc_limits.specs.Places.{first};
 ghost use Rattle.affc_limits.specs.Texts as spec;
 ghost use Rattle.affc_limits.specs.Texts.{takes_none};
@@ -10,8 +10,8 @@ ghost use Rattle.affc_limits.specs.Texts.{takes_none};
 use crate::forms::{first_of, first_product_in, lesser, literal_past};
 use crate::parts::large_part;
 use affc_syntax::draft::draft::{
-    CompareDraft, DeclDraft, IxDraft, LocalDraft, ParamDraft, PragmaDraft, StmtDraft, TextDraft,
-    ValueDraft,
+    CompareDraft, CondDraft, DeclDraft, IxDraft, LocalDraft, ParamDraft, PragmaDraft, StmtDraft,
+    TextDraft, ValueDraft,
 };
 use std::alloc::{AllocError, Global};
 
@@ -106,7 +106,7 @@ fn in_value(rule: Rule, before: Option<usize>, v: &ValueDraft) -> Result<Option<
     }
 }
 
-fn in_conds(
+fn in_comparisons(
     rule: Rule,
     before: Option<usize>,
     items: &[CompareDraft],
@@ -117,6 +117,37 @@ fn in_conds(
     let mut found = before;
     for item in items {
         found = in_pair(rule, found, &item.left, &item.right)?;
+    }
+    Ok(found)
+}
+
+/// The recursion goes as deep as `&&` and `||` stand in one another.
+#[cycle(conditions)]
+#[tactic(auto, using(affc_syntax::proofs::draft::Outs::cond_outs))]
+fn in_cond(rule: Rule, before: Option<usize>, c: &CondDraft) -> Result<Option<usize>, AllocError>
+    ensures found { IfOk result (λ p. p ≡ spec.with_found rule before (cond_texts (cond c.now))) }
+    ensures sure { IsTrue (takes_none rule) → IsOk result }
+{
+    match c {
+        CondDraft::Compare(compare) => in_pair(rule, before, &compare.left, &compare.right),
+        CondDraft::Divides { value, .. } => in_one(rule, before, value),
+        CondDraft::All(entries) => in_conds(rule, before, entries.as_slice()),
+        CondDraft::Any(entries) => in_conds(rule, before, entries.as_slice()),
+    }
+}
+
+#[cycle(conditions)]
+fn in_conds(
+    rule: Rule,
+    before: Option<usize>,
+    items: &[CondDraft],
+) -> Result<Option<usize>, AllocError>
+    ensures found { IfOk result (λ p. p ≡ spec.with_found rule before (conds_texts (conds_of (map cond items.now)))) }
+    ensures sure { IsTrue (takes_none rule) → IsOk result }
+{
+    let mut found = before;
+    for item in items {
+        found = in_cond(rule, found, item)?;
     }
     Ok(found)
 }
@@ -146,9 +177,15 @@ fn in_stmt(rule: Rule, before: Option<usize>, s: &StmtDraft) -> Result<Option<us
             let bounds = in_pair(rule, before, &head.low, &head.high)?;
             in_stmts(rule, bounds, body.as_slice())
         }
-        StmtDraft::If { conds, body, .. } => {
-            let tests = in_conds(rule, before, conds.as_slice())?;
-            in_stmts(rule, tests, body.as_slice())
+        StmtDraft::If {
+            cond,
+            body,
+            other,
+            ..
+        } => {
+            let tests = in_cond(rule, before, cond)?;
+            let inside = in_stmts(rule, tests, body.as_slice())?;
+            in_stmts(rule, inside, other.as_slice())
         }
         StmtDraft::Assign { subs, value, .. } => {
             let stored = in_each(rule, before, subs.as_slice())?;
@@ -187,7 +224,7 @@ fn in_pragma(
 {
     match line {
         PragmaDraft::Range { .. } => Ok(before),
-        PragmaDraft::Context { conds, .. } => in_conds(rule, before, conds.as_slice()),
+        PragmaDraft::Context { conds, .. } => in_comparisons(rule, before, conds.as_slice()),
     }
 }
 

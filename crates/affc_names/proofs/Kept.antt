@@ -5,7 +5,7 @@ use Rattle.std.specs.List.{flat_map}
 use Rattle.std.proofs.lemmas.Bool.{cond-true}
 use Rattle.std.proofs.lemmas.Bool.Decides.{nat_tests}
 use Rattle.affc_grammar.specs.Draft as d
-use Rattle.affc_grammar.specs.Limits.{at_if, literals_past, sides, value_texts, stmts_texts, stmt_texts, pragma_texts, param_texts, affine_texts, is_range, ranges_past}
+use Rattle.affc_grammar.specs.Limits.{at_if, literals_past, sides, conds_texts, cond_texts, value_texts, stmts_texts, stmt_texts, pragma_texts, param_texts, affine_texts, conds_past, cond_past, divisors_past, divisors_past_in, is_range, ranges_past}
 use Rattle.affc_names.specs.Stored as stored
 use Rattle.affc_names.specs.Shifts.{value_shifts, stmts_shift, stmt_shifts}
 
@@ -31,7 +31,7 @@ flat-append f (x ∷ xs) ys e =
     let q = flat-append f xs ys p.1 in
     (ap (λ l. l ++ flat_map f xs) p.0 ∙ q.0, q.1)
 
-module _ (limit : ℕ) (le : limit < 2 ^ 63) where
+module _ (limit divisor : ℕ) (le : limit < 2 ^ 63) (few : divisor < 2 ^ 63) where
   abbrev Keeps : List d.IxDraft → Type 0
   Keeps xs = flat_map (literals_past limit) xs ≡ []
 
@@ -64,6 +64,20 @@ module _ (limit : ℕ) (le : limit < 2 ^ 63) where
   compares_kept [] h = refl
   compares_kept (c ∷ cs) h = let p = flat-append (literals_past limit) (sides c) (flat_map sides cs) h in λ i. compare_kept c p.0 i ∷ compares_kept cs p.1 i
 
+  mutual
+    conds_kept : (cs : d.CondsDraft) → Keeps (conds_texts cs) → conds_past divisor cs ≡ [] → stored.conds cs ≡ cs
+    conds_kept d.no_conds h r = refl
+    conds_kept (d.and_cond cs c) h r =
+        let p = flat-append (literals_past limit) (conds_texts cs) (cond_texts c) h in
+        let q = no_append (conds_past divisor cs) (cond_past divisor c) r in
+        λ i. d.and_cond (conds_kept cs p.0 q.0 i) (cond_kept c p.1 q.1 i)
+
+    cond_kept : (c : d.CondDraft) → Keeps (cond_texts c) → cond_past divisor c ≡ [] → stored.cond c ≡ c
+    cond_kept (d.comparison c) h r = ap d.comparison (compare_kept c h)
+    cond_kept (d.divisible a by_at by so) h r = λ i. d.divisible (one_kept a h i) by_at (small divisor by few (not_passed (nat_lt divisor by) by_at r) i) so
+    cond_kept (d.all_of cs) h r = ap d.all_of (conds_kept cs h r)
+    cond_kept (d.any_of cs) h r = ap d.any_of (conds_kept cs h r)
+
   value_kept : (v : d.ValueDraft) → Keeps (value_texts v) → value_shifts v ≡ true → stored.value v ≡ v
   value_kept (d.load at w subs) h s = ap (d.load at w) (ixs_kept subs h)
   value_kept (d.constant n) h s = refl
@@ -84,27 +98,32 @@ module _ (limit : ℕ) (le : limit < 2 ^ 63) where
       λ i. record { at = l.at; name = l.name; value = ix_kept l.value p.0 i } ∷ locals_kept ls p.1 i
 
   mutual
-    stmts_kept : (ss : d.StmtsDraft) → Keeps (stmts_texts ss) → stmts_shift ss ≡ true → stored.stmts ss ≡ ss
-    stmts_kept d.no_stmts h s = refl
-    stmts_kept (d.and_stmt ss x) h s =
+    stmts_kept : (ss : d.StmtsDraft) → Keeps (stmts_texts ss) → divisors_past divisor ss ≡ [] → stmts_shift ss ≡ true → stored.stmts ss ≡ ss
+    stmts_kept d.no_stmts h r s = refl
+    stmts_kept (d.and_stmt ss x) h r s =
         let p = flat-append (literals_past limit) (stmts_texts ss) (stmt_texts x) h in
+        let o = no_append (divisors_past divisor ss) (divisors_past_in divisor x) r in
         let q = both (stmts_shift ss) (stmt_shifts x) s in
-        λ i. d.and_stmt (stmts_kept ss p.0 q.0 i) (stmt_kept x p.1 q.1 i)
+        λ i. d.and_stmt (stmts_kept ss p.0 o.0 q.0 i) (stmt_kept x p.1 o.1 q.1 i)
 
-    stmt_kept : (x : d.StmtDraft) → Keeps (stmt_texts x) → stmt_shifts x ≡ true → stored.stmt x ≡ x
-    stmt_kept (d.for_loop k body) h s =
+    stmt_kept : (x : d.StmtDraft) → Keeps (stmt_texts x) → divisors_past_in divisor x ≡ [] → stmt_shifts x ≡ true → stored.stmt x ≡ x
+    stmt_kept (d.for_loop k body) h r s =
         let p = no_append (literals_past limit k.low) (flat_map (literals_past limit) (k.high ∷ stmts_texts body)) h in
         let q = no_append (literals_past limit k.high) (flat_map (literals_past limit) (stmts_texts body)) p.1 in
-        λ i. d.for_loop (record { at = k.at; iterator = k.iterator; low = ix_kept k.low p.0 i; tested = k.tested; rel = k.rel; high = ix_kept k.high q.0 i; stepped = k.stepped }) (stmts_kept body q.1 s i)
-    stmt_kept (d.if_all at cs body) h s =
-        let p = flat-append (literals_past limit) (flat_map sides cs) (stmts_texts body) h in
-        λ i. d.if_all at (compares_kept cs p.0 i) (stmts_kept body p.1 s i)
-    stmt_kept (d.assign w subs op v) h s =
+        λ i. d.for_loop (record { at = k.at; iterator = k.iterator; low = ix_kept k.low p.0 i; tested = k.tested; rel = k.rel; high = ix_kept k.high q.0 i; stepped = k.stepped }) (stmts_kept body q.1 r s i)
+    stmt_kept (d.if_cond at c body other) h r s =
+        let p1 = flat-append (literals_past limit) (cond_texts c ++ stmts_texts body) (stmts_texts other) h in
+        let p = flat-append (literals_past limit) (cond_texts c) (stmts_texts body) p1.0 in
+        let o1 = no_append (cond_past divisor c ++ divisors_past divisor body) (divisors_past divisor other) r in
+        let o = no_append (cond_past divisor c) (divisors_past divisor body) o1.0 in
+        let q = both (stmts_shift body) (stmts_shift other) s in
+        λ i. d.if_cond at (cond_kept c p.0 o.0 i) (stmts_kept body p.1 o.1 q.0 i) (stmts_kept other p1.1 o1.1 q.1 i)
+    stmt_kept (d.assign w subs op v) h r s =
         let p = flat-append (literals_past limit) subs (value_texts v) h in
         λ i. d.assign w (ixs_kept subs p.0 i) op (value_kept v p.1 s i)
-    stmt_kept (d.block ls body) h s =
+    stmt_kept (d.block ls body) h r s =
         let p = flat-append (literals_past limit) (map (λ l. l.value) ls) (stmts_texts body) h in
-        λ i. d.block (locals_kept ls p.0 i) (stmts_kept body p.1 s i)
+        λ i. d.block (locals_kept ls p.0 i) (stmts_kept body p.1 r s i)
 
   decl_kept : (k : d.DeclDraft) → Keeps k.extents → stored.decl k ≡ k
   decl_kept k h = λ i. record { word = k.word; role = k.role; extents = ixs_kept k.extents h i }
@@ -136,9 +155,9 @@ module _ (limit : ℕ) (le : limit < 2 ^ 63) where
       let p = flat-append (literals_past limit) (flat_map sides cs) (flat_map pragma_texts ps) h in
       λ i. d.context at (compares_kept cs p.0 i) ∷ pragmas_kept ps p.1 r i
 
-  pub text_kept : (c : d.TextDraft) → flat_map (literals_past limit) (affine_texts c) ≡ [] → ranges_past c.pragmas ≡ [] → stmts_shift c.body ≡ true → stored.text c ≡ c
-  text_kept c h r s =
+  pub text_kept : (c : d.TextDraft) → flat_map (literals_past limit) (affine_texts c) ≡ [] → ranges_past c.pragmas ≡ [] → divisors_past divisor c.body ≡ [] → stmts_shift c.body ≡ true → stored.text c ≡ c
+  text_kept c h r o s =
       let body = flat-append (literals_past limit) ((flat_map pragma_texts c.pragmas ++ flat_map param_texts c.params) ++ flat_map (λ k. k.extents) c.temps) (stmts_texts c.body) h in
       let temps = flat-append (literals_past limit) (flat_map pragma_texts c.pragmas ++ flat_map param_texts c.params) (flat_map (λ k. k.extents) c.temps) body.0 in
       let front = flat-append (literals_past limit) (flat_map pragma_texts c.pragmas) (flat_map param_texts c.params) temps.0 in
-      λ i. record { pragmas = pragmas_kept c.pragmas front.0 r i; has_prelude = c.has_prelude; function = c.function; params = params_kept c.params front.1 i; temps = decls_kept c.temps temps.1 i; body = stmts_kept c.body body.1 s i }
+      λ i. record { pragmas = pragmas_kept c.pragmas front.0 r i; has_prelude = c.has_prelude; function = c.function; params = params_kept c.params front.1 i; temps = decls_kept c.temps temps.1 i; body = stmts_kept c.body body.1 o s i }

@@ -1,7 +1,9 @@
 pub mod Tables
 pub mod ReservedTests
 pub mod Each
+pub mod Grown
 pub mod Chains
+pub mod Conditions
 pub mod Statements
 pub mod Refusals
 pub mod LineLaws

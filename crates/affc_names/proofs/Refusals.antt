@@ -7,7 +7,7 @@ use Rattle.affc_ast.specs.declared.tree.Program.{Program}
 use Rattle.affc_grammar.specs.declared.fault.NameWhy.{NameWhy}
 use Rattle.affc_grammar.specs.Grammar.{Name}
 use Rattle.affc_grammar.specs.Draft as d
-use Rattle.affc_grammar.specs.Names.{Thing, function, number, array, Scope, thing_of, with_number, with_array, with_param, with_params, outermost, why_number, why_array, why_declared, why_repeated, why_ranged, function_why, Refusal, Checked, ◌>>=◌, allowed, each, number_named, array_named, ix_tree, compare_tree, value_tree, locals_tree, head_tree, stmts_tree, stmt_tree, pragmas_tree, range_of, number_tree, decl_tree, param_tree, params_tree, temps_tree, program_tree}
+use Rattle.affc_grammar.specs.Names.{Thing, function, number, array, Scope, thing_of, with_number, with_array, with_param, with_params, outermost, why_number, why_array, why_declared, why_repeated, why_ranged, function_why, Refusal, Checked, ◌>>=◌, allowed, each, number_named, array_named, ix_tree, compare_tree, conds_tree, cond_tree, value_tree, locals_tree, head_tree, stmts_tree, stmt_tree, pragmas_tree, range_of, number_tree, decl_tree, param_tree, params_tree, temps_tree, program_tree}
 use Rattle.affc_names.specs.Kinds.{kind_of, AreAlike}
 use Rattle.affc_names.specs.Stored as stored
 
@@ -95,6 +95,17 @@ compare_same s t h c = same_bind Any Any _ _ _ _ (ix_same s t h c.left) (λ _ _ 
 itself : (s : Scope) → AreAlike s s
 itself s = record { has_prelude = refl; kinds = λ w. refl }
 
+mutual
+  conds_same : (s : Scope) (cs : d.CondsDraft) → Same Any (conds_tree s (stored.conds cs)) (conds_tree s cs)
+  conds_same s d.no_conds = tt
+  conds_same s (d.and_cond cs c) = same_bind Any Any _ _ _ _ (conds_same s cs) (λ _ _ _. same_bind Any Any _ _ _ _ (cond_same s c) (λ _ _ _. tt))
+
+  cond_same : (s : Scope) (c : d.CondDraft) → Same Any (cond_tree s (stored.cond c)) (cond_tree s c)
+  cond_same s (d.comparison c) = same_bind Any Any _ _ _ _ (ix_same s s (itself s) c.left) (λ _ _ _. same_bind Any Any _ _ _ _ (ix_same s s (itself s) c.right) (λ _ _ _. tt))
+  cond_same s (d.divisible a by_at by so) = same_bind Any Any _ _ _ _ (ix_same s s (itself s) a) (λ _ _ _. tt)
+  cond_same s (d.all_of cs) = same_bind Any Any _ _ _ _ (conds_same s cs) (λ _ _ _. tt)
+  cond_same s (d.any_of cs) = same_bind Any Any _ _ _ _ (conds_same s cs) (λ _ _ _. tt)
+
 ixs_same : (s : Scope) (es : List d.IxDraft) → Same Any (each (ix_tree s) (map stored.ix es)) (each (ix_tree s) es)
 ixs_same s es = same_each stored.ix (ix_tree s) (ix_tree s) (ix_same s s (itself s)) es
 
@@ -137,8 +148,8 @@ mutual
 
   stmt_same : (s : Scope) (x : d.StmtDraft) → Same Any (stmt_tree s (stored.stmt x)) (stmt_tree s x)
   stmt_same s (d.for_loop h body) = same_bind Any Any _ _ _ _ (head_same s h) (λ _ _ _. same_bind Any Any _ _ _ _ (stmts_same (with_number true s h.iterator.name) body) (λ _ _ _. tt))
-  stmt_same s (d.if_all at cs body) =
-      same_bind Any Any _ _ _ _ (same_each stored.compare (compare_tree s) (compare_tree s) (compare_same s s (itself s)) cs) (λ _ _ _. same_bind Any Any _ _ _ _ (stmts_same s body) (λ _ _ _. tt))
+  stmt_same s (d.if_cond at c body other) =
+      same_bind Any Any _ _ _ _ (cond_same s c) (λ _ _ _. same_bind Any Any _ _ _ _ (stmts_same s body) (λ _ _ _. same_bind Any Any _ _ _ _ (stmts_same s other) (λ _ _ _. tt)))
   stmt_same s (d.assign w subs op v) =
       same_bind Any Any _ _ _ _ (array_same s w.at w.name true (length (map stored.ix subs)) (length subs) (length-map subs stored.ix)) (λ _ _ _.
       same_bind Any Any _ _ _ _ (ixs_same s subs) (λ _ _ _. same_bind Any Any _ _ _ _ (value_same s v) (λ _ _ _. tt)))

@@ -1,6 +1,5 @@
 -- Statements and locals, one after another.
-use Rattle.std.proofs.Common.{◌≡◌, ℕ, zero, suc, ◌+◌, ◌<◌, ◌≤◌, true, false, List, [], ◌∷◌, ◌++◌, length, get_or, take, drop, map, Option, Some, None, Ok, Err, refl, sym, ap, ◌∙◌, subst, arith, append_assoc, append-nil, drop-cons, add-one}
-use Rattle.std.proofs.lemmas.List.{map-append}
+use Rattle.std.proofs.Common.{◌≡◌, ℕ, zero, suc, ◌+◌, ◌<◌, ◌≤◌, true, false, List, [], ◌∷◌, ◌++◌, length, get_or, take, drop, map, Option, Some, None, Ok, Err, refl, sym, ap, ◌∙◌, subst, append_assoc, append-nil, drop-cons, add-one}
 use Rattle.affc_ast.specs.declared.tree.Ix.{Ix}
 use Rattle.affc_ast.specs.declared.tree.Local.{Local}
 use Rattle.affc_ast.specs.declared.tree.Stmt.{Stmt}
@@ -12,16 +11,16 @@ use Rattle.affc_syntax.specs.declared.draft.draft.StmtDraft as code
 use Rattle.affc_syntax.specs.declared.draft.draft.StmtDraft.TheVariants as s
 use Rattle.affc_syntax.specs.declared.draft.draft.LocalDraft as code_local
 use Rattle.affc_syntax.specs.declared.draft.draft.HeadDraft as code_head
-use Rattle.affc_syntax.specs.declared.draft.draft.CompareDraft as code_compare
+use Rattle.affc_syntax.specs.declared.draft.draft.CondDraft as code_cond
 use Rattle.affc_syntax.proofs.draft.Outs.{stmt-For, stmt-If, stmt-Block}
-use Rattle.affc_syntax.specs.draft.Drafts.{stmts_of, stmts_after, stmt, local, head, compare}
+use Rattle.affc_syntax.specs.draft.Drafts.{stmts_of, stmts_after, stmt, local, head, cond}
 use Rattle.affc_names.specs.declared.fault.NameFault.{NameFault}
 use Rattle.affc_names.specs.declared.fault.NameFault.TheVariants.{Memory, Refused}
 use Rattle.affc_names.specs.Gives.{Fails, Allows}
 use Rattle.affc_names.specs.Visible.{without}
 use Rattle.affc_names.specs.Locals.{local_tree}
 use Rattle.affc_names.specs.Stored as stored
-use Rattle.affc_names.proofs.Each.{taken, whole}
+use Rattle.affc_names.proofs.Grown.{no_larger, turn, stops}
 
 drop-suc : {A : Type 0} (n : ℕ) (xs : List A) → drop (suc n) xs ≡ drop 1 (drop n xs)
 drop-suc zero xs = refl
@@ -30,49 +29,21 @@ drop-suc (suc n) (x ∷ xs) = drop-suc n xs
 
 -- ---- Statements
 
-after-append : (ss : d.StmtsDraft) (xs ys : List d.StmtDraft) → stmts_after ss (xs ++ ys) ≡ stmts_after (stmts_after ss xs) ys
-after-append ss [] ys = refl
-after-append ss (x ∷ xs) ys = after-append (d.and_stmt ss x) xs ys
+abbrev trees_of : Scope → d.StmtsDraft → Checked (List Stmt)
+trees_of scope ss = names.stmts_tree scope (stored.stmts ss)
 
--- the statements of a list, split at one of them
-split_at : (cs : List code.StmtDraft) (i : ℕ) (c : code.StmtDraft) → i < length cs → c ≡ get_or cs i c
-    → stmts_of (map stmt cs) ≡ stmts_after (d.and_stmt (stmts_of (map stmt (take i cs))) (stmt c)) (map stmt (drop (suc i) cs))
-split_at cs i c lt is =
-    ap (λ l. stmts_of (map stmt l)) (whole cs i c lt is)
-    ∙ ap stmts_of (map-append stmt (take i cs) (c ∷ drop (suc i) cs))
-    ∙ after-append d.no_stmts (map stmt (take i cs)) (stmt c ∷ map stmt (drop (suc i) cs))
-
-one_more : (cs : List code.StmtDraft) (i : ℕ) (c : code.StmtDraft) → i < length cs → c ≡ get_or cs i c
-    → stmts_of (map stmt (take (i + 1) cs)) ≡ d.and_stmt (stmts_of (map stmt (take i cs))) (stmt c)
-one_more cs i c lt is =
-    ap (λ l. stmts_of (map stmt l)) (taken cs i c lt is)
-    ∙ ap stmts_of (map-append stmt (take i cs) (c ∷ []))
-    ∙ after-append d.no_stmts (map stmt (take i cs)) (stmt c ∷ [])
-
-abbrev tree_of : Scope → d.StmtsDraft → Checked (List Stmt)
-tree_of scope ss = names.stmts_tree scope (stored.stmts ss)
+abbrev tree_of : Scope → d.StmtDraft → Checked Stmt
+tree_of scope s = names.stmt_tree scope (stored.stmt s)
 
 pub stmts_turn : (scope : Scope) (cs : List code.StmtDraft) (i : ℕ) (c : code.StmtDraft) (done : List Stmt) (t : Stmt) → i < length cs → c ≡ get_or cs i c
     → names.stmts_tree scope (stored.stmts (stmts_of (map stmt (take i cs)))) ≡ Ok done → names.stmt_tree scope (stored.stmt (stmt c)) ≡ Ok t
     → names.stmts_tree scope (stored.stmts (stmts_of (map stmt (take (i + 1) cs)))) ≡ Ok (done ++ t ∷ [])
-stmts_turn scope cs i c done t lt is before here =
-    ap (tree_of scope) (one_more cs i c lt is)
-    ∙ ap (λ m. m >>= (λ xs. names.stmt_tree scope (stored.stmt (stmt c)) >>= (λ x. Ok (xs ++ x ∷ [])))) before
-    ∙ ap (λ m. m >>= (λ x. Ok (done ++ x ∷ []))) here
-
-fails_after : (scope : Scope) (ss : d.StmtsDraft) (xs : List d.StmtDraft) (r : Refusal) → tree_of scope ss ≡ Err r → tree_of scope (stmts_after ss xs) ≡ Err r
-fails_after scope ss [] r e = e
-fails_after scope ss (x ∷ xs) r e = fails_after scope (d.and_stmt ss x) xs r (ap (λ m. m >>= (λ ys. names.stmt_tree scope (stored.stmt x) >>= (λ y. Ok (ys ++ y ∷ [])))) e)
+stmts_turn scope = turn stmt d.no_stmts d.and_stmt stmts_after (λ ss. refl) (λ ss x xs. refl) (trees_of scope) (tree_of scope) (λ ss x. refl)
 
 pub stmts_stops : (scope : Scope) (cs : List code.StmtDraft) (i : ℕ) (c : code.StmtDraft) (done : List Stmt) (fault : NameFault) → i < length cs → c ≡ get_or cs i c
     → names.stmts_tree scope (stored.stmts (stmts_of (map stmt (take i cs)))) ≡ Ok done → Fails fault (names.stmt_tree scope (stored.stmt (stmt c)))
     → Fails fault (names.stmts_tree scope (stored.stmts (stmts_of (map stmt cs))))
-stmts_stops scope cs i c done Memory lt is before here = tt
-stmts_stops scope cs i c done (Refused at why) lt is before here =
-    ap (tree_of scope) (split_at cs i c lt is)
-    ∙ fails_after scope (d.and_stmt (stmts_of (map stmt (take i cs))) (stmt c)) (map stmt (drop (suc i) cs)) _
-    (ap (λ m. m >>= (λ xs. names.stmt_tree scope (stored.stmt (stmt c)) >>= (λ x. Ok (xs ++ x ∷ [])))) before
-    ∙ ap (λ m. m >>= (λ x. Ok (done ++ x ∷ []))) here)
+stmts_stops scope = stops stmt d.no_stmts d.and_stmt stmts_after (λ ss. refl) (λ ss x xs. refl) (trees_of scope) (tree_of scope) (λ ss x. refl)
 
 -- ---- How many statements there are
 
@@ -83,19 +54,12 @@ abbrev mutual
 
   pub weight : d.StmtDraft → ℕ
   weight (d.for_loop h body) = 1 + weights body
-  weight (d.if_all at cs body) = 1 + weights body
+  weight (d.if_cond at c body other) = 1 + weights body + weights other
   weight (d.assign w subs op v) = 1
   weight (d.block ls body) = 1 + weights body
 
-no_lighter : (ss : d.StmtsDraft) (xs : List d.StmtDraft) → weights ss ≤ weights (stmts_after ss xs)
-no_lighter ss [] = omega arith
-no_lighter ss (x ∷ xs) = let h = no_lighter (d.and_stmt ss x) xs in omega (arith, h)
-
 pub lighter : (cs : List code.StmtDraft) (i : ℕ) (c : code.StmtDraft) → i < length cs → c ≡ get_or cs i c → weight (stmt c) ≤ weights (stmts_of (map stmt cs))
-lighter cs i c lt is =
-    let all : weights (stmts_of (map stmt cs)) ≡ weights (stmts_after (d.and_stmt (stmts_of (map stmt (take i cs))) (stmt c)) (map stmt (drop (suc i) cs))) = ap weights (split_at cs i c lt is) in
-    let h = no_lighter (d.and_stmt (stmts_of (map stmt (take i cs))) (stmt c)) (map stmt (drop (suc i) cs)) in
-    omega (arith, all, h)
+lighter = no_larger stmt d.no_stmts d.and_stmt stmts_after (λ ss. refl) (λ ss x xs. refl) weights weight (λ ss x. refl)
 
 -- ---- Locals
 
@@ -241,9 +205,10 @@ module _ (scope : Scope) (h : d.HeadDraft) (low : Ix) (declared : names.why_decl
 pub for_is : (x : code.StmtDraft) (h : code_head.HeadDraft) (body slice : List code.StmtDraft) → x ≡ s.For h body → slice ≡ body → stmt x ≡ d.for_loop (head h) (stmts_of (map stmt slice))
 for_is x h body slice is same = ap stmt is ∙ stmt-For h body ∙ ap (λ l. d.for_loop (head h) (stmts_of (map stmt l))) (sym same)
 
-pub if_is : (x : code.StmtDraft) (at : ℕ) (conds shown : List code_compare.CompareDraft) (body slice : List code.StmtDraft) → x ≡ s.If at conds body → shown ≡ conds → slice ≡ body
-    → stmt x ≡ d.if_all at (map compare shown) (stmts_of (map stmt slice))
-if_is x at conds shown body slice is same alike = ap stmt is ∙ stmt-If at conds body ∙ ap (λ l. d.if_all at (map compare l) (stmts_of (map stmt body))) (sym same) ∙ ap (λ l. d.if_all at (map compare shown) (stmts_of (map stmt l))) (sym alike)
+pub if_is : (x : code.StmtDraft) (at : ℕ) (k : code_cond.CondDraft) (body slice other others : List code.StmtDraft) → x ≡ s.If at k body other → slice ≡ body → others ≡ other
+    → stmt x ≡ d.if_cond at (cond k) (stmts_of (map stmt slice)) (stmts_of (map stmt others))
+if_is x at k body slice other others is same alike =
+    ap stmt is ∙ stmt-If at k body other ∙ ap (λ l. d.if_cond at (cond k) (stmts_of (map stmt l)) (stmts_of (map stmt other))) (sym same) ∙ ap (λ l. d.if_cond at (cond k) (stmts_of (map stmt slice)) (stmts_of (map stmt l))) (sym alike)
 
 pub block_is : (x : code.StmtDraft) (locals shown : List code_local.LocalDraft) (body slice : List code.StmtDraft) → x ≡ s.Block locals body → shown ≡ locals → slice ≡ body
     → stmt x ≡ d.block (map local shown) (stmts_of (map stmt slice))

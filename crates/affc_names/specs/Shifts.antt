@@ -1,6 +1,6 @@
 -- Whether the shifts of a draft are such as a tree can hold.
 use Rattle.std.specs.Prelude.{Bool, true, ◌&&◌, nat_lt}
-use Rattle.affc_grammar.specs.Draft.{ValueDraft, load, constant, cast, complement, binary, shift, StmtsDraft, no_stmts, and_stmt, StmtDraft, for_loop, if_all, assign, block}
+use Rattle.affc_grammar.specs.Draft.{ValueDraft, load, constant, cast, complement, binary, shift, StmtsDraft, no_stmts, and_stmt, StmtDraft, for_loop, if_cond, assign, block}
 
 abbrev pub value_shifts : ValueDraft → Bool
 value_shifts (load at w subs) = true
@@ -17,6 +17,6 @@ abbrev mutual
 
   pub stmt_shifts : StmtDraft → Bool
   stmt_shifts (for_loop h body) = stmts_shift body
-  stmt_shifts (if_all at cs body) = stmts_shift body
+  stmt_shifts (if_cond at c body other) = stmts_shift body && stmts_shift other
   stmt_shifts (assign w subs op v) = value_shifts v
   stmt_shifts (block ls body) = stmts_shift body

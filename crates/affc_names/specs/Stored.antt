@@ -1,6 +1,6 @@
 -- Numbers that a tree can hold, where a draft may have larger ones: those are cut. A text with such a number passes a limit.
 use Rattle.std.specs.Prelude.{ℕ, ◌^◌, ◌-◌, nat_lt, map, ℤ, pos, nat_abs, if◌then◌else◌}
-use Rattle.affc_grammar.specs.Draft.{IxDraft, literal, name, negated, sum, difference, product, grouped, chosen, divided, CompareDraft, ValueDraft, load, constant, cast, complement, binary, shift, LocalDraft, HeadDraft, StmtsDraft, no_stmts, and_stmt, StmtDraft, for_loop, if_all, assign, block, DeclDraft, ParamDraft, number_param, array_param, PragmaDraft, range, context, TextDraft}
+use Rattle.affc_grammar.specs.Draft.{IxDraft, literal, name, negated, sum, difference, product, grouped, chosen, divided, CompareDraft, CondsDraft, no_conds, and_cond, CondDraft, comparison, divisible, all_of, any_of, ValueDraft, load, constant, cast, complement, binary, shift, LocalDraft, HeadDraft, StmtsDraft, no_stmts, and_stmt, StmtDraft, for_loop, if_cond, assign, block, DeclDraft, ParamDraft, number_param, array_param, PragmaDraft, range, context, TextDraft}
 
 abbrev pub number : ℕ → ℕ
 number n = if nat_lt n (2 ^ 63) then n else 2 ^ 63 - 1
@@ -27,6 +27,17 @@ ix (divided at f a by_at by) = divided at f (ix a) by_at (number by)
 abbrev pub compare : CompareDraft → CompareDraft
 compare c = record { rel = c.rel; left = ix c.left; right = ix c.right }
 
+abbrev mutual
+  pub conds : CondsDraft → CondsDraft
+  conds no_conds = no_conds
+  conds (and_cond cs c) = and_cond (conds cs) (cond c)
+
+  pub cond : CondDraft → CondDraft
+  cond (comparison c) = comparison (compare c)
+  cond (divisible a by_at by so) = divisible (ix a) by_at (number by) so
+  cond (all_of cs) = all_of (conds cs)
+  cond (any_of cs) = any_of (conds cs)
+
 abbrev pub value : ValueDraft → ValueDraft
 value (load at w subs) = load at w (map ix subs)
 value (constant n) = constant n
@@ -48,7 +59,7 @@ abbrev mutual
 
   pub stmt : StmtDraft → StmtDraft
   stmt (for_loop h body) = for_loop (head h) (stmts body)
-  stmt (if_all at cs body) = if_all at (map compare cs) (stmts body)
+  stmt (if_cond at c body other) = if_cond at (cond c) (stmts body) (stmts other)
   stmt (assign w subs op v) = assign w (map ix subs) op (value v)
   stmt (block ls body) = block (map local ls) (stmts body)
 

@@ -39,7 +39,7 @@ fn number_named(scope: &Scope, at: usize, name: &str) -> Result<NameId, NameFaul
 }
 
 /// A number as a tree holds it; one that is too large is cut.
-fn stored(value: u64) -> i64
+pub(crate) fn stored(value: u64) -> i64
     ensures { result ≡ pos (stored.number value) }
 {
     if value < (1 << 63) {

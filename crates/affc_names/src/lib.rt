@@ -2,6 +2,7 @@
 #![tactic(auto)]
 
 mod chain;
+mod condition;
 pub mod fault;
 mod index;
 mod lines;

@@ -10,10 +10,10 @@ ghost use Rattle.affc_names.specs.Stored as stored;
 ghost use Rattle.affc_names.specs.Gives.{Gives};
 ghost use Rattle.affc_names.specs.Ranges.{lines_of, texts, GiveSameRanges, line_tree, ranged_by};
 
+use crate::condition::compare_trees;
 use crate::fault::NameFault;
 use crate::scope::Scope;
 use crate::spread::Spread;
-use crate::value::compare_trees;
 use crate::why::why_ranged;
 use affc_ast::Items;
 use affc_ast::tree::Compare;

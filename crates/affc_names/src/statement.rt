@@ -9,17 +9,18 @@ ghost use Rattle.affc_names.specs.Visible.{without};
 ghost use Rattle.affc_names.specs.Gives.{Gives, GivesWith, Allows};
 ghost use Rattle.affc_names.specs.Locals.{local_tree};
 
+use crate::condition::cond_tree;
 use crate::fault::NameFault;
 use crate::index::{ix_tree, ix_trees};
 use crate::scope::Scope;
-use crate::value::{array_named, compare_trees, value_tree};
+use crate::value::{array_named, value_tree};
 use crate::why::{why_declared, why_repeated};
 use affc_ast::Items;
 use affc_ast::text::Text;
 use affc_ast::tree::{Ix, Local, Op, Stmt};
 use affc_grammar::fault::NameWhy;
 use affc_syntax::draft::draft::{
-    CompareDraft, HeadDraft, IxDraft, LocalDraft, StmtDraft, ValueDraft, WordDraft,
+    CondDraft, HeadDraft, IxDraft, LocalDraft, StmtDraft, ValueDraft, WordDraft,
 };
 use std::alloc::{AllocError, Global};
 
@@ -152,15 +153,17 @@ fn for_tree(
 fn if_tree(
     alloc: Global,
     scope: &mut Scope,
-    conds: &[CompareDraft],
+    cond: &CondDraft,
     body: &[StmtDraft],
+    other: &[StmtDraft],
 ) -> Result<Stmt, NameFault>
-    ensures tree { Gives result (names.stmt_tree scope.old (stored.stmt (d.if_all 0 (map seen.compare conds.now) (seen.stmts_of (map seen.stmt body.now))))) }
+    ensures tree { Gives result (names.stmt_tree scope.old (stored.stmt (d.if_cond 0 (seen.cond cond.now) (seen.stmts_of (map seen.stmt body.now)) (seen.stmts_of (map seen.stmt other.now))))) }
     ensures same { OnOk result (scope.new ≡ scope.old) }
 {
-    let conds = compare_trees(alloc, scope, conds)?;
+    let cond = cond_tree(alloc, scope, cond)?;
     let body = stmts_tree(alloc, scope, body)?;
-    Ok(Stmt::If { conds, body })
+    let other = stmts_tree(alloc, scope, other)?;
+    Ok(Stmt::If { cond, body, other })
 }
 
 #[cycle(stmts)]
@@ -188,9 +191,12 @@ fn stmt_tree(alloc: Global, scope: &mut Scope, draft: &StmtDraft) -> Result<Stmt
 {
     match draft {
         StmtDraft::For { head, body } => for_tree(alloc, scope, head, body.as_slice()),
-        StmtDraft::If { conds, body, .. } => {
-            if_tree(alloc, scope, conds.as_slice(), body.as_slice())
-        }
+        StmtDraft::If {
+            cond,
+            body,
+            other,
+            ..
+        } => if_tree(alloc, scope, cond, body.as_slice(), other.as_slice()),
         StmtDraft::Assign {
             array,
             subs,

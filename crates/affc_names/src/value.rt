@@ -1,6 +1,6 @@
-//! Trees of conditions and of values.
+//! Trees of values.
 
-ghost use Rattle.std.specs.Prelude.{◌≡◌, map};
+ghost use Rattle.std.specs.Prelude.{◌≡◌};
 ghost use Rattle.std.specs.Option.{option_map};
 ghost use Rattle.affc_grammar.specs.Names as names;
 ghost use Rattle.affc_syntax.specs.draft.Drafts as seen;
@@ -14,9 +14,9 @@ use crate::fault::NameFault;
 use crate::index::{ix_tree, ix_trees};
 use crate::scope::{Scope, Thing};
 use crate::why::why_array;
-use affc_ast::tree::{ArrayId, Compare, Val};
-use affc_ast::{Boxed, Items};
-use affc_syntax::draft::draft::{CompareDraft, ValueDraft};
+use affc_ast::Boxed;
+use affc_ast::tree::{ArrayId, Val};
+use affc_syntax::draft::draft::ValueDraft;
 use std::alloc::Global;
 
 fn array_id(thing: Option<Thing>) -> ArrayId
@@ -42,39 +42,6 @@ pub(crate) fn array_named(
         None => Ok(array_id(thing)),
         Some(why) => Err(NameFault::Refused { at, why }),
     }
-}
-
-pub(crate) fn compare_tree(
-    alloc: Global,
-    scope: &Scope,
-    draft: &CompareDraft,
-) -> Result<Compare, NameFault>
-    ensures { Gives result (names.compare_tree scope.now (stored.compare (seen.compare draft.now))) }
-{
-    let left = ix_tree(alloc, scope, &draft.left)?;
-    let right = ix_tree(alloc, scope, &draft.right)?;
-    Ok(Compare {
-        rel: draft.rel,
-        left,
-        right,
-    })
-}
-
-/// Each of the conditions, in order.
-#[tactic(auto, using(crate::proofs::Each::each_turn, crate::proofs::Each::each_stops))]
-pub(crate) fn compare_trees(
-    alloc: Global,
-    scope: &Scope,
-    drafts: &[CompareDraft],
-) -> Result<Items<Compare>, NameFault>
-    ensures { Gives result (names.each (names.compare_tree scope.now) (map stored.compare (map seen.compare drafts.now))) }
-{
-    let mut trees = Items::new(alloc);
-    for draft in drafts {
-        let tree = compare_tree(alloc, scope, draft)?;
-        trees.push(tree)?;
-    }
-    Ok(trees)
 }
 
 /// The bits of a shift as a tree holds them.

@@ -60,17 +60,22 @@ pub no_place : (which : LimitName) (places : List ℕ) → passed_at which place
 no_place which [] e = refl
 no_place which (p ∷ ps) e = absurd (cc)
 
-small_limit : (b : Bool) → (limits_of b).literal < 2 ^ 63
-small_limit true = omega arith
-small_limit false = omega arith
+small_literal : (b : Bool) → (limits_of b).literal < 2 ^ 63
+small_literal true = omega arith
+small_literal false = omega arith
+
+small_divisor : (b : Bool) → (limits_of b).divisor < 2 ^ 63
+small_divisor true = omega arith
+small_divisor false = omega arith
 
 pub written_kept : (b : Bool) (written : Text) → least (passed (limits_of b) (text_draft written)) ≡ None → stored.text (text_draft written) ≡ text_draft written
 written_kept b written e =
     let c = text_draft written in
     let k = no_append _ _ (none_passed (passed (limits_of b) c) e) in
-    let l = no_append _ _ k.0 in
+    let m = no_append _ _ k.0 in
+    let l = no_append _ _ (no_append _ _ m.0).0 in
     let a = no_append _ _ (no_append _ _ (no_append _ _ (no_append _ _ (no_append _ _ (no_append _ _ (no_append _ _ (no_append _ _ l.0).0).0).0).0).0).0).0 in
-    text_kept (limits_of b).literal (small_limit b) c (no_place _ _ l.1) (no_place _ _ a.1) (text_shifts written)
+    text_kept (limits_of b).literal (limits_of b).divisor (small_literal b) (small_divisor b) c (no_place _ _ l.1) (no_place _ _ a.1) (no_place _ _ m.1) (text_shifts written)
 
 -- ---- The text
 

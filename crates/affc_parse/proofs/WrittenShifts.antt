@@ -32,12 +32,13 @@ mutual
   stmt at (g.simple s) = simple at s
   stmt at (g.block ls ss) = stmts _ ss
 
-  simple : {prelude : Bool} (at : ℕ) (s : SimpleText prelude) → stmt_shifts (simple_draft at s) ≡ true
+  simple : {prelude dangles : Bool} (at : ℕ) (s : SimpleText prelude dangles) → stmt_shifts (simple_draft at s) ≡ true
   simple at (g.for_loop iterator low tested strict high step body) = body_of _ body
-  simple at (g.if_all cs body) = body_of _ body
+  simple at (g.if_then c body) = joined _ _ (body_of _ body) refl
+  simple at (g.if_else c body other) = joined _ _ (body_of _ body) (body_of _ other)
   simple at (g.assign array subs op v) = values _ v
 
-  body_of : {prelude : Bool} (at : ℕ) (b : BodyText prelude) → stmts_shift (body_draft at b) ≡ true
+  body_of : {prelude dangles : Bool} (at : ℕ) (b : BodyText prelude dangles) → stmts_shift (body_draft at b) ≡ true
   body_of at (g.braces ss) = stmts _ ss
   body_of at (g.bare s) = simple at s
 

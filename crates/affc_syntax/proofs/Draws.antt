@@ -19,6 +19,11 @@ mapped_then (Err Deep) d f h e k = refl
 pub then_is : {A B D E : Type 0} (y : Read Symbol D) (x : Read Symbol A) (d : A → D) (f : A → Reader Symbol B) (h : D → Reader Symbol E) (e : B → E) → y ≡ mapped d x → ((a : A) (us : List Symbol) → x ≡ Ok (a, us) → h (d a) us ≡ mapped e (f a us)) → then_read y h ≡ mapped e (then_read x f)
 then_is y x d f h e q k = ap (λ z. then_read z h) q ∙ mapped_then x d f h e k
 
+pub then_then : {A B C : Type 0} (x : Read Symbol A) (f : A → Reader Symbol B) (g : B → Reader Symbol C) → then_read (then_read x f) g ≡ then_read x (λ a us. then_read (f a us) g)
+then_then (Ok x) f g = refl
+then_then (Err (At ts)) f g = refl
+then_then (Err Deep) f g = refl
+
 -- by the first token, as the grammar's readers go
 pub either_past : {A K : Type 0} (test : Symbol → Option K) (next : K → Reader Symbol A) (other : Reader Symbol A) (ts : List Symbol) → either test next other ts ≡ on_past (past test ts) next (other ts)
 unfolding either

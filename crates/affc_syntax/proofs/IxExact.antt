@@ -29,14 +29,14 @@ pub holding_some : (b : Bool) → is_some (r.holding b) ≡ b
 holding_some true = refl
 holding_some false = refl
 
-abbrev Divisor : Type 0
+abbrev pub Divisor : Type 0
 Divisor = (by : List ℕ) × IsTrue (is_divisor by)
 
 divisor_of : (bytes : List ℕ) (o : Option (IsTrue (is_divisor bytes))) → (if is_some o then Some (decimal bytes) else None) ≡ option_map (λ (p : Divisor). decimal p.0) (r.with_proof {P = λ by. IsTrue (is_divisor by)} bytes o)
 divisor_of bytes None = refl
 divisor_of bytes (Some h) = refl
 
-divisor_turned : (x : Symbol) → divisor_value x ≡ option_map (λ (p : Divisor). decimal p.0) (r.divisor x)
+pub divisor_turned : (x : Symbol) → divisor_value x ≡ option_map (λ (p : Divisor). decimal p.0) (r.divisor x)
 divisor_turned x = by_kind (is_number_kind x.kind)
   where
     by_kind : (b : Bool) → (if b then (if is_divisor x.bytes then Some (decimal x.bytes) else None) else None) ≡ option_map (λ (p : Divisor). decimal p.0) (if b then r.with_proof {P = λ by. IsTrue (is_divisor by)} x.bytes (r.holding (is_divisor x.bytes)) else None)

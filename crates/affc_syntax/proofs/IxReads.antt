@@ -15,12 +15,12 @@ use Rattle.affc_syntax.proofs.Readers.{Shrinks, left_give, left_fail, left_then,
 
 -- ---- Each reader of expressions
 
+pub divisor_left : Shrinks divisor
+divisor_left ts = on_test divisor_value (λ by us. Ok (by, us)) (Err (At ts)) ts (λ by us. left_give by us (length us) (omega arith)) (left_fail (At ts) (length ts))
+
 module _ (prelude : Bool) (end : ℕ) (inner : Reader Symbol IxDraft) (h : Shrinks inner) where
   group_left : (at : ℕ) → Shrinks (group at inner)
   group_left at ts = left_then (inner ts) (λ a. closed (codes ")") (grouped at a)) (length ts) (h ts) (λ a. closed_left (codes ")") (grouped at a))
-
-  divisor_left : Shrinks divisor
-  divisor_left ts = on_test divisor_value (λ by us. Ok (by, us)) (Err (At ts)) ts (λ by us. left_give by us (length us) (omega arith)) (left_fail (At ts) (length ts))
 
   call_left : (at : ℕ) (f : Callee) → Shrinks (call end at inner f)
   call_left at (of_choice f) ts =

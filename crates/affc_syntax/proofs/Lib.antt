@@ -1,3 +1,4 @@
+pub mod Comparisons
 pub mod CondExact
 pub mod CondReads
 pub mod Draws

@@ -1,8 +1,10 @@
 -- What stands first among tokens.
-use Rattle.std.specs.Prelude.{ℕ, List, [], ◌∷◌, Option, Some, None, if◌then◌else◌}
+use Rattle.std.specs.Prelude.{ℕ, Bool, ◌||◌, List, [], ◌∷◌, Option, Some, None, if◌then◌else◌}
 use Rattle.affc_lex.specs.Bytes.{decimal}
-use Rattle.affc_grammar.specs.Grammar.{Symbol, is_divisor}
-use Rattle.affc_grammar.specs.Reading.{of_kind, is_number_kind}
+use Rattle.affc_ast.specs.declared.tree.Rel.{Rel}
+use Rattle.affc_ast.specs.Joined.{is_ordered}
+use Rattle.affc_grammar.specs.Grammar.{Symbol, is_mark_kind, is_divisor}
+use Rattle.affc_grammar.specs.Reading.{of_kind, choose, rels, is_number_kind}
 
 abbrev pub with_rest : {K : Type 0} → List Symbol → Option K → Option (K × List Symbol)
 with_rest ts None = None
@@ -15,6 +17,14 @@ past test (x ∷ ts) = with_rest ts (test x)
 
 abbrev pub number_value : Symbol → Option ℕ
 number_value = of_kind is_number_kind (λ bytes. Some (decimal bytes))
+
+-- what a mark compares by, where it may
+abbrev pub if_told : (wide : Bool) → Option Rel → Option Rel
+if_told wide None = None
+if_told wide (Some rel) = if wide || is_ordered rel then Some rel else None
+
+abbrev pub relation_value : (wide : Bool) → Symbol → Option Rel
+relation_value wide = of_kind is_mark_kind (λ bytes. if_told wide (choose rels bytes))
 
 -- of a Number of at least 1
 abbrev pub divisor_value : Symbol → Option ℕ

@@ -206,8 +206,8 @@ fn sign(symbol: &Symbol<'_>) -> Option<bool>
     }
 }
 
-fn relation(symbol: &Symbol<'_>) -> Option<Rel>
-    ensures { result ≡ tests.rel_of (seen symbol.now) }
+fn relation(wide: bool, symbol: &Symbol<'_>) -> Option<Rel>
+    ensures { result ≡ ahead.relation_value wide (seen symbol.now) }
 {
     if !is_mark_kind(symbol.kind) {
         None
@@ -221,24 +221,83 @@ fn relation(symbol: &Symbol<'_>) -> Option<Rel>
         Some(Rel::GreaterEqual)
     } else if same(b"==", symbol.text) {
         Some(Rel::Equal)
+    } else if wide && same(b"!=", symbol.text) {
+        Some(Rel::NotEqual)
     } else {
         None
     }
 }
 
-/// What a mark compares by, and the place behind it.
-pub fn past_relation(symbols: &[Symbol<'_>], at: usize) -> Option<(Rel, usize)>
+/// What a mark compares by, and the place behind it; a `!=` compares where `wide`.
+pub fn past_relation(wide: bool, symbols: &[Symbol<'_>], at: usize) -> Option<(Rel, usize)>
     ensures rest { MatchOption result
-        (ahead.past tests.rel_of (drop at (map seen symbols.now)) ≡ None)
-        (λ r. ahead.past tests.rel_of (drop at (map seen symbols.now)) ≡ Some (r.0, drop r.1 (map seen symbols.now))) }
+        (ahead.past (ahead.relation_value wide) (drop at (map seen symbols.now)) ≡ None)
+        (λ r. ahead.past (ahead.relation_value wide) (drop at (map seen symbols.now)) ≡ Some (r.0, drop r.1 (map seen symbols.now))) }
     ensures next { IfSome result (λ r. (r.1 ≡ at + 1) × (r.1 ≤ length symbols.now)) }
 {
     match first(symbols, at) {
-        Some(symbol) => match relation(symbol) {
+        Some(symbol) => match relation(wide, symbol) {
             Some(rel) => Some((rel, at + 1)),
             None => None,
         },
         None => None,
+    }
+}
+
+fn zero_sign(symbol: &Symbol<'_>) -> Option<bool>
+    ensures { result ≡ tests.zero_sign (seen symbol.now) }
+{
+    if !is_mark_kind(symbol.kind) {
+        None
+    } else if same(b"==", symbol.text) {
+        Some(true)
+    } else if same(b"!=", symbol.text) {
+        Some(false)
+    } else {
+        None
+    }
+}
+
+/// Whether a `==` or a `!=` is a `==`, and the place behind it.
+pub fn past_zero_sign(symbols: &[Symbol<'_>], at: usize) -> Option<(bool, usize)>
+    ensures rest { MatchOption result
+        (ahead.past tests.zero_sign (drop at (map seen symbols.now)) ≡ None)
+        (λ r. ahead.past tests.zero_sign (drop at (map seen symbols.now)) ≡ Some (r.0, drop r.1 (map seen symbols.now))) }
+    ensures next { IfSome result (λ r. (r.1 ≡ at + 1) × (r.1 ≤ length symbols.now)) }
+{
+    match first(symbols, at) {
+        Some(symbol) => match zero_sign(symbol) {
+            Some(yes) => Some((yes, at + 1)),
+            None => None,
+        },
+        None => None,
+    }
+}
+
+fn is_zero(symbol: &Symbol<'_>) -> bool
+    ensures { result ≡ is_some (tests.zero_number (seen symbol.now)) }
+{
+    match symbol.kind {
+        Kind::Number => same(b"0", symbol.text),
+        _ => false,
+    }
+}
+
+/// The place behind the Number `0`.
+pub fn behind_zero(symbols: &[Symbol<'_>], at: usize) -> Result<usize, Stop>
+    ensures { MatchResult result
+        (λ next. ahead.past tests.zero_number (drop at (map seen symbols.now)) ≡ Some (tt, drop next (map seen symbols.now)))
+        (λ f. (f ≡ stop.At at) × (ahead.past tests.zero_number (drop at (map seen symbols.now)) ≡ None)) }
+{
+    match first(symbols, at) {
+        Some(symbol) => {
+            if is_zero(symbol) {
+                Ok(at + 1)
+            } else {
+                Err(Stop::At(at))
+            }
+        }
+        None => Err(Stop::At(at)),
     }
 }
 

@@ -163,7 +163,7 @@ fn choice_call(
 }
 
 /// A Number of at least 1.
-fn divisor(symbols: &[Symbol<'_>], next: usize) -> Answer<u64>
+pub(crate) fn divisor(symbols: &[Symbol<'_>], next: usize) -> Answer<u64>
     ensures { Gives (map seen symbols.now) readers.itself result (reading.divisor (drop next (map seen symbols.now))) }
 {
     match past_divisor(symbols, next) {

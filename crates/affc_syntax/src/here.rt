@@ -1,8 +1,8 @@
 //! What stands at a token, for readers of what holds it. `room` is how many brackets may still be opened, `next` is the number of the token; a
 //! number behind the last token is answered as that of the end.
 
-ghost use Rattle.std.specs.Prelude.{drop, length, map};
-ghost use Rattle.affc_syntax.specs.draft.Drafts.{compare, ix, value};
+ghost use Rattle.std.specs.Prelude.{drop, length, map, true};
+ghost use Rattle.affc_syntax.specs.draft.Drafts.{compare, cond, ix, value};
 ghost use Rattle.affc_syntax.specs.draft.Symbols.{seen};
 ghost use Rattle.affc_syntax.specs.CondReading as conds;
 ghost use Rattle.affc_syntax.specs.IxReading as reading;
@@ -11,7 +11,7 @@ ghost use Rattle.affc_syntax.specs.Readers.{Gives};
 ghost use Rattle.affc_syntax.specs.ValueReading as values;
 
 use crate::ahead::{Answer, counted};
-use crate::draft::draft::{CompareDraft, IxDraft, ValueDraft};
+use crate::draft::draft::{CompareDraft, CondDraft, IxDraft, ValueDraft};
 use crate::draft::symbol::Symbol;
 use crate::{condition, expression, value};
 use affc_ast::Items;
@@ -62,18 +62,33 @@ pub fn dims_here(
     counted(symbols, answer)
 }
 
-/// The conditions that stand here, in one list.
-pub fn conditions_here(
+/// The condition of an `if` that stands here.
+pub fn condition_here(
+    alloc: Global,
+    prelude: bool,
+    room: u32,
+    symbols: &[Symbol<'_>],
+    next: usize,
+) -> Answer<CondDraft>
+    ensures read { Gives (map seen symbols.now) cond result (conds.whole prelude true (length symbols.now) room (drop next (map seen symbols.now))) }
+    ensures within { readers.IsWithin symbols.now result }
+{
+    let answer = condition::condition(alloc, prelude, true, room, symbols, next);
+    counted(symbols, answer)
+}
+
+/// The comparisons of a line that stand here.
+pub fn comparisons_here(
     alloc: Global,
     prelude: bool,
     room: u32,
     symbols: &[Symbol<'_>],
     next: usize,
 ) -> Answer<Items<CompareDraft>>
-    ensures read { Gives (map seen symbols.now) (map compare) result (conds.conds prelude (length symbols.now) room (drop next (map seen symbols.now))) }
+    ensures read { Gives (map seen symbols.now) (map compare) result (conds.comparisons prelude (length symbols.now) room (drop next (map seen symbols.now))) }
     ensures within { readers.IsWithin symbols.now result }
 {
-    let answer = condition::conditions(alloc, prelude, room, symbols, next);
+    let answer = condition::comparisons(alloc, prelude, room, symbols, next);
     counted(symbols, answer)
 }
 

@@ -1,30 +1,34 @@
 -- The drafts of statements that are read are those of the grammar's statements, read by the grammar.
-use Rattle.std.proofs.Common.{◌≡◌, ℕ, zero, suc, ◌+◌, ◌-◌, Bool, true, false, ◌&&◌, codes, ◌≤◌, List, [], ◌∷◌, ◌++◌, length, Option, Some, None, Ok, Err, if◌then◌else◌, refl, sym, ap, ◌∙◌, arith, length-append}
-use Rattle.std.specs.Option.{option_map}
+use Rattle.std.proofs.Common.{◌≡◌, ℕ, zero, suc, ◌+◌, ◌-◌, Bool, true, false, ◌&&◌, ◌||◌, codes, ◌≤◌, List, [], ◌∷◌, ◌++◌, length, Option, Some, None, Ok, Err, if◌then◌else◌, refl, sym, ap, ◌∙◌, arith, length-append}
+use Rattle.std.specs.Option.{is_some}
 use Rattle.affc_lex.specs.Bytes.{same}
+use Rattle.affc_ast.specs.declared.tree.Op.{Op}
 use Rattle.affc_grammar.specs.Grammar as g
-use Rattle.affc_grammar.specs.Grammar.{Symbol, Name, mark, word, IxText, StepText, LocalsText, StmtsText, StmtText, SimpleText, BodyText, ix_symbols, dims_symbols, conds_symbols, step_symbols, locals_symbols, stmts_symbols}
+use Rattle.affc_grammar.specs.Grammar.{Symbol, Name, mark, word, IxText, DimsText, CondText, StepText, LocalsText, StmtsText, StmtText, SimpleText, BodyText, ix_symbols, dims_symbols, cond_symbols, step_symbols, locals_symbols, stmts_symbols, simple_symbols, body_symbols}
 use Rattle.affc_grammar.specs.Draft as d
-use Rattle.affc_grammar.specs.Draft.{StmtDraft, StmtsDraft, and_stmt, no_stmts, WordDraft, word_draft, ix_draft, dims_draft, conds_draft, value_draft, step_draft, bound_rel, head_draft, head_length, locals_draft, stmts_draft, stmt_draft, simple_draft, body_draft}
-use Rattle.affc_grammar.specs.Reader.{At, Deep, Read, Reader, then_read, give, fail, deep, after, on, all, Turn, going, done, tries, until, and_on, inside}
+use Rattle.affc_grammar.specs.Draft.{StmtDraft, StmtsDraft, no_stmts, WordDraft, word_draft, ix_draft, dims_draft, cond_draft, value_draft, step_draft, bound_rel, head_draft, head_length, locals_draft, stmts_draft, stmt_draft, simple_draft, body_draft}
+use Rattle.affc_grammar.specs.Reader.{At, Deep, Read, Reader, then_read, on_some, give, fail, deep, after, either, on, all, Turn, going, done, tries, until, and_on, inside}
 use Rattle.affc_grammar.specs.Reading as r
 use Rattle.affc_grammar.specs.Reading.{this_mark, this_word, any_word, one, bound_of, assign_of, choose, head_words, First, a_word, a_brace, first_of}
 use Rattle.affc_grammar.specs.Reading.{stmts_inside as grammar_stmts, block_inside as grammar_block}
-use Rattle.affc_grammar.proofs.Rules.{ix_inside_rule, dims_rule, head_symbols, heads_symbols, before_symbols, progress_symbols, worded_rule, under_body_rule, closed_symbols, stmt_more_rule, block_symbols, block_more_rule, stmts_inside_rule, block_inside_rule}
+use Rattle.affc_grammar.proofs.Rules.{ix_inside_rule, dims_rule, assign_rule, head_symbols, heads_symbols, before_symbols, closing_symbols, close_symbols, close_one_symbols, opened_symbols, progress_symbols, worded_rule, under_body_rule, closed_symbols, stmt_more_rule, block_symbols, block_more_rule, stmts_inside_rule, block_inside_rule}
 use Rattle.affc_grammar.proofs.Rule.{Rule}
+use Rattle.affc_grammar.proofs.Closed.{all_is as all_once}
+use Rattle.affc_grammar.proofs.Complete.{dims_reader}
 use Rattle.affc_grammar.proofs.Tests.{first_symbol}
 use Rattle.affc_grammar.specs.Limits.{count_open}
 use Rattle.affc_syntax.specs.Ahead.{past}
 use Rattle.affc_syntax.specs.Readers.{on_past, closed, mapped, all_more}
 use Rattle.affc_syntax.specs.IxReading as ix
 use Rattle.affc_syntax.specs.ValueReading.{value}
-use Rattle.affc_syntax.proofs.Draws.{Draws, Placed, then_is, either_mapped, past_one, failed, closed_is, all_is, lifted}
+use Rattle.affc_syntax.specs.draft.Drafts.{stmts_after}
+use Rattle.affc_syntax.proofs.Draws.{Draws, Placed, then_is, then_then, either_mapped, past_one, failed, closed_is, all_is}
 use Rattle.affc_syntax.proofs.IxExact.{expression_is, inside_is, dims_is}
-use Rattle.affc_syntax.proofs.CondExact.{conds_is}
+use Rattle.affc_syntax.proofs.CondExact.{cond_is}
 use Rattle.affc_syntax.proofs.ValueExact.{value_is}
-use Rattle.affc_text.specs.Parts.{Head, for_head, if_head, Heads, Block, no_items, with_head, under, and_one, whole}
-use Rattle.affc_text.specs.StmtReading.{conds_inside, expression, named, stepped, step, step_closed, tested, for_behind, if_behind, head_behind, assigned, assigned_under, worded, body_turn, going_on, tries_more, until_done, under_heads, simple, statement, stmt_more, is_none, local_behind, block_stmt, block_more, stmts_inside, block_inside}
-use Rattle.affc_text.proofs.StmtReads.{covered_last}
+use Rattle.affc_text.specs.Parts.{Head, for_head, if_head, else_head, Heads, Closing, closed as closed_stmt, waiting, Block, no_items, with_head, alone, covered, listed, close, under_one}
+use Rattle.affc_text.specs.StmtReading.{cond_inside, expression, named, stepped, step, step_closed, tested, for_behind, if_behind, head_behind, assigned, else_behind, closed_behind, assigned_under, worded, body_turn, going_on, tries_more, until_done, under_heads, simple, statement, stmt_more, is_none, local_behind, block_stmt, block_more, stmts_inside, block_inside}
+use Rattle.affc_text.proofs.StmtReads.{covered_last, close_last, behind}
 
 -- ---- A token, and what is read behind it
 
@@ -104,55 +108,166 @@ step_as_read {A} end h ws = past_then (past (this_mark (codes ";")) ws) _ ws joi
 
 abbrev pub head_of : {prelude : Bool} → ℕ → r.Head prelude → Head
 head_of at (r.for_head iterator low w strict high s) = for_head (head_draft at iterator low w strict high s)
-head_of at (r.if_head cs) = if_head at (conds_draft (at + 2) cs)
+head_of at (r.if_head c) = if_head at (cond_draft (at + 2) c)
+head_of at (r.else_head c body) = else_head at (cond_draft (at + 2) c) (body_draft (at + 2 + length (cond_symbols c) + 1) body)
 
 abbrev pub heads_of : {prelude : Bool} → ℕ → r.Heads prelude → Heads
-heads_of at (r.head h) = and_one None (head_of at h)
-heads_of at (r.and_head hs h) = and_one (Some (heads_of at hs)) (head_of (at + length (heads_symbols hs)) h)
+heads_of at (r.head h) = behind [] (head_of at h)
+heads_of at (r.and_head hs h) = behind (listed (heads_of at hs)) (head_of (at + length (heads_symbols hs)) h)
 
-abbrev pub turn_of : {prelude : Bool} → ℕ → Turn (r.Heads prelude) (SimpleText prelude) → Turn Heads StmtDraft
-turn_of at = turned (heads_of at) (simple_draft at)
+abbrev pub before_of : {prelude : Bool} → ℕ → Option (r.Heads prelude) → List Head
+before_of at None = []
+before_of at (Some hs) = listed (heads_of at hs)
 
-head_count : {prelude : Bool} (iterator : Name) (low : IxText prelude) (w : Name) (strict : Bool) (high : IxText prelude) (s : StepText) → length (head_symbols (r.for_head iterator low w strict high s)) ≡ head_length low high s
-head_count iterator low w strict high s =
+-- the number behind them
+abbrev pub behind_heads : {prelude : Bool} → ℕ → Option (r.Heads prelude) → ℕ
+behind_heads at o = at + length (before_symbols o)
+
+abbrev pub closing_of : {prelude : Bool} → ℕ → r.Closing prelude → Closing
+closing_of at (r.closed s) = closed_stmt (simple_draft at s)
+closing_of at (r.waiting o c body) = waiting (before_of at o) (behind_heads at o) (cond_draft (behind_heads at o + 2) c) (body_draft (behind_heads at o + 2 + length (cond_symbols c) + 1) body)
+
+abbrev pub ended_of : {prelude : Bool} → ℕ → r.Ended prelude → List StmtDraft
+ended_of at (r.one_stmt s) = stmt_draft at s ∷ []
+ended_of at (r.and_else s t) = simple_draft at s ∷ simple_draft (at + length (simple_symbols s)) t ∷ []
+
+abbrev pub turn_of : {prelude : Bool} → ℕ → Turn (r.Heads prelude) (r.Ended prelude) → Turn Heads (List StmtDraft)
+turn_of at = turned (heads_of at) (ended_of at)
+
+-- behind other statements
+pub ended_after : {prelude : Bool} (p : ℕ) (ss : StmtsText prelude) (e : r.Ended prelude) → stmts_after (stmts_draft p ss) (ended_of (p + length (stmts_symbols ss)) e) ≡ stmts_draft p (r.and_ended ss e)
+ended_after p ss (r.one_stmt s) = refl
+ended_after p ss (r.and_else s t) =
+    let count = length-append (stmts_symbols ss) (simple_symbols s) in
+    let place : p + length (stmts_symbols ss) + length (simple_symbols s) ≡ p + length (stmts_symbols ss ++ simple_symbols s) = omega arith in
+    ap (λ n. d.and_stmt (d.and_stmt (stmts_draft p ss) (simple_draft (p + length (stmts_symbols ss)) s)) (simple_draft n t)) place
+
+for_count : {prelude : Bool} (iterator : Name) (low : IxText prelude) (w : Name) (strict : Bool) (high : IxText prelude) (s : StepText) → length (head_symbols (r.for_head iterator low w strict high s)) ≡ head_length low high s
+for_count iterator low w strict high s =
     let one = length-append (ix_symbols low) (mark (codes ";") ∷ word w ∷ mark (g.bound_mark strict) ∷ (ix_symbols high ++ mark (codes ";") ∷ (step_symbols s ++ mark (codes ")") ∷ []))) in
     let two = length-append (ix_symbols high) (mark (codes ";") ∷ (step_symbols s ++ mark (codes ")") ∷ [])) in
     let three = length-append (step_symbols s) (mark (codes ")") ∷ []) in
     omega arith
 
-with_is : {prelude : Bool} (at : ℕ) (h : r.Head prelude) (body : BodyText prelude) → simple_draft at (r.with_body h body) ≡ with_head (head_of at h) (body_draft (at + length (head_symbols h)) body)
-with_is at (r.for_head iterator low w strict high s) body = ap (λ n. d.for_loop (head_draft at iterator low w strict high s) (body_draft (at + n) body)) (sym (head_count iterator low w strict high s))
-with_is at (r.if_head cs) body =
-    let count = length-append (conds_symbols cs) (mark (codes ")") ∷ []) in
-    let e : at + 2 + length (conds_symbols cs) + 1 ≡ at + length (head_symbols (r.if_head cs)) = omega arith in
-    ap (λ n. d.if_all at (conds_draft (at + 2) cs) (body_draft n body)) e
+if_count : {prelude : Bool} (at : ℕ) (c : CondText prelude true) → at + 2 + length (cond_symbols c) + 1 ≡ at + length (head_symbols (r.if_head c))
+if_count at c = let count = length-append (cond_symbols c) (mark (codes ")") ∷ []) in omega arith
 
-pub under_is : {prelude : Bool} (at : ℕ) (hs : r.Heads prelude) (body : BodyText prelude) → simple_draft at (r.under hs body) ≡ under (heads_of at hs) (body_draft (at + length (heads_symbols hs)) body)
-under_is at (r.head h) body = with_is at h body
+else_count : {prelude : Bool} (at : ℕ) (c : CondText prelude true) (body : BodyText prelude false) → at + 2 + length (cond_symbols c) + 1 + length (body_symbols body) + 1 ≡ at + length (head_symbols (r.else_head c body))
+else_count at c body =
+    let count = length-append (cond_symbols c) (mark (codes ")") ∷ (body_symbols body ++ word (codes "else") ∷ [])) in
+    let first = length-append (body_symbols body) (word (codes "else") ∷ []) in
+    omega arith
+
+for_with : {prelude dangles : Bool} (at : ℕ) (iterator : Name) (low : IxText prelude) (w : Name) (strict : Bool) (high : IxText prelude) (s : StepText) (body : BodyText prelude dangles)
+    → simple_draft at (g.for_loop iterator low w strict high s body) ≡ d.for_loop (head_draft at iterator low w strict high s) (body_draft (at + length (head_symbols (r.for_head iterator low w strict high s))) body)
+for_with at iterator low w strict high s body = ap (λ n. d.for_loop (head_draft at iterator low w strict high s) (body_draft (at + n) body)) (sym (for_count iterator low w strict high s))
+
+if_with : {prelude dangles : Bool} (at : ℕ) (c : CondText prelude true) (body : BodyText prelude dangles) → simple_draft at (g.if_then c body) ≡ d.if_cond at (cond_draft (at + 2) c) (body_draft (at + length (head_symbols (r.if_head c))) body) no_stmts
+if_with at c body = ap (λ n. d.if_cond at (cond_draft (at + 2) c) (body_draft n body) no_stmts) (if_count at c)
+
+else_with : {prelude dangles : Bool} (at : ℕ) (c : CondText prelude true) (body : BodyText prelude false) (other : BodyText prelude dangles)
+    → simple_draft at (g.if_else c body other) ≡ d.if_cond at (cond_draft (at + 2) c) (body_draft (at + 2 + length (cond_symbols c) + 1) body) (body_draft (at + length (head_symbols (r.else_head c body))) other)
+else_with at c body other = ap (λ n. d.if_cond at (cond_draft (at + 2) c) (body_draft (at + 2 + length (cond_symbols c) + 1) body) (body_draft n other)) (else_count at c body)
+
+open_with : {prelude : Bool} (at : ℕ) (h : r.Head prelude) (body : BodyText prelude true) → simple_draft at (r.with_open h body) ≡ with_head (head_of at h) (body_draft (at + length (head_symbols h)) body)
+open_with at (r.for_head iterator low w strict high s) body = for_with at iterator low w strict high s body
+open_with at (r.if_head c) body = if_with at c body
+open_with at (r.else_head c body) other = else_with at c body other
+
+-- behind the heads before another
+heads_place : {prelude : Bool} (at : ℕ) (hs : r.Heads prelude) (h : r.Head prelude) → at + length (heads_symbols hs) + length (head_symbols h) ≡ at + length (heads_symbols (r.and_head hs h))
+heads_place at hs h = let count = length-append (heads_symbols hs) (head_symbols h) in omega arith
+
+under_is : {prelude : Bool} (at : ℕ) (hs : r.Heads prelude) (body : BodyText prelude true) → simple_draft at (r.under hs body) ≡ covered (heads_of at hs).outer (with_head (heads_of at hs).inner (body_draft (at + length (heads_symbols hs)) body))
+under_is at (r.head h) body = open_with at h body
 under_is at (r.and_head hs h) body =
     let n = at + length (heads_symbols hs) in
     let m = heads_of at hs in
-    let count = length-append (heads_symbols hs) (head_symbols h) in
-    let e : n + length (head_symbols h) ≡ at + length (heads_symbols hs ++ head_symbols h) = omega arith in
-    under_is at hs (g.bare (r.with_body h body))
-    ∙ ap (λ s. under m (and_stmt no_stmts s)) (with_is n h body)
-    ∙ ap (λ k. under m (and_stmt no_stmts (with_head (head_of n h) (body_draft k body)))) e
-    ∙ sym (covered_last m.outer m.inner (with_head (head_of n h) (body_draft (at + length (heads_symbols hs ++ head_symbols h)) body)))
+    under_is at hs (g.bare (r.with_open h body))
+    ∙ ap (λ s. covered m.outer (with_head m.inner (alone s))) (open_with n h body ∙ ap (λ k. with_head (head_of n h) (body_draft k body)) (heads_place at hs h))
+    ∙ sym (covered_last m.outer m.inner (with_head (head_of n h) (body_draft (at + length (heads_symbols (r.and_head hs h))) body)))
 
-whole_is : {prelude : Bool} (at n : ℕ) (o : Option (r.Heads prelude)) (s : SimpleText prelude) → n ≡ at + length (before_symbols o) → simple_draft at (r.whole o s) ≡ whole (option_map (heads_of at) o) (simple_draft n s)
-whole_is at n None s e = let same : at ≡ n = omega arith in ap (λ m. simple_draft m s) same
-whole_is at n (Some hs) s e = under_is at hs (g.bare s) ∙ ap (λ m. under (heads_of at hs) (and_stmt no_stmts (simple_draft m s))) (sym e)
+opened_is : {prelude : Bool} (at : ℕ) (o : Option (r.Heads prelude)) (s : SimpleText prelude true) → simple_draft at (r.opened o s) ≡ covered (before_of at o) (simple_draft (behind_heads at o) s)
+opened_is at None s = let same : at ≡ at + 0 = omega arith in ap (λ m. simple_draft m s) same
+opened_is at (Some hs) s =
+    let m = heads_of at hs in
+    under_is at hs (g.bare s) ∙ sym (covered_last m.outer m.inner (simple_draft (at + length (heads_symbols hs)) s))
 
-one_is : {prelude : Bool} (at n : ℕ) (o : Option (r.Heads prelude)) (h : r.Head prelude) → n ≡ at + length (before_symbols o) → heads_of at (r.and_one o h) ≡ and_one (option_map (heads_of at) o) (head_of n h)
-one_is at n None h e = let same : at ≡ n = omega arith in ap (λ m. and_one None (head_of m h)) same
-one_is at n (Some hs) h e = ap (λ m. and_one (Some (heads_of at hs)) (head_of m h)) (sym e)
+one_is : {prelude : Bool} (at : ℕ) (o : Option (r.Heads prelude)) (h : r.Head prelude) → heads_of at (r.and_one o h) ≡ behind (before_of at o) (head_of (behind_heads at o) h)
+one_is at None h = let same : at ≡ at + 0 = omega arith in ap (λ m. behind [] (head_of m h)) same
+one_is at (Some hs) h = refl
+
+-- ---- Closed statements under heads
+
+-- the last head over a closed body, under the others
+under_last : (hs : Heads) (s t : StmtDraft) (k : Closing) → k ≡ under_one hs.outer hs.inner (alone s) → s ≡ t → k ≡ close (listed hs) t
+under_last hs s t k e q = e ∙ ap (λ x. under_one hs.outer hs.inner (alone x)) q ∙ sym (close_last hs.outer hs.inner t)
+
+close_is : {prelude : Bool} (at : ℕ) (hs : r.Heads prelude) (body : BodyText prelude false) → closing_of at (r.close hs body) ≡ under_one (heads_of at hs).outer (heads_of at hs).inner (body_draft (at + length (heads_symbols hs)) body)
+close_is at (r.head (r.for_head iterator low w strict high s)) body = ap closed_stmt (for_with at iterator low w strict high s body)
+close_is at (r.head (r.if_head c)) body =
+    let same : at + 0 ≡ at = omega arith in
+    ap (λ m. waiting [] m (cond_draft (m + 2) c) (body_draft (m + 2 + length (cond_symbols c) + 1) body)) same ∙ ap (λ n. waiting [] at (cond_draft (at + 2) c) (body_draft n body)) (if_count at c)
+close_is at (r.head (r.else_head c body)) other = ap closed_stmt (else_with at c body other)
+close_is at (r.and_head hs (r.for_head iterator low w strict high s)) body =
+    let n = at + length (heads_symbols hs) in
+    let h = r.for_head iterator low w strict high s in
+    under_last (heads_of at hs) _ _ _ (close_is at hs (g.bare (g.for_loop iterator low w strict high s body)))
+    (for_with n iterator low w strict high s body ∙ ap (λ k. with_head (head_of n h) (body_draft k body)) (heads_place at hs h))
+close_is at (r.and_head hs (r.if_head c)) body =
+    let n = at + length (heads_symbols hs) in
+    ap (λ k. waiting (listed (heads_of at hs)) n (cond_draft (n + 2) c) (body_draft k body)) (if_count n c ∙ heads_place at hs (r.if_head c))
+close_is at (r.and_head hs (r.else_head c body)) other =
+    let n = at + length (heads_symbols hs) in
+    let h = r.else_head c body in
+    under_last (heads_of at hs) _ _ _ (close_is at hs (g.bare (g.if_else c body other)))
+    (else_with n c body other ∙ ap (λ k. with_head (head_of n h) (body_draft k other)) (heads_place at hs h))
+
+close_one_is : {prelude : Bool} (at : ℕ) (o : Option (r.Heads prelude)) (s : SimpleText prelude false) → closing_of at (r.close_one o s) ≡ close (before_of at o) (simple_draft (behind_heads at o) s)
+close_one_is at None s = let same : at ≡ at + 0 = omega arith in ap (λ m. closed_stmt (simple_draft m s)) same
+close_one_is at (Some hs) s = under_last (heads_of at hs) _ _ _ (close_is at hs (g.bare s)) refl
+
+-- ---- `else`, where it is the first of an assignment
+
+on_then : {A B K : Type 0} (test : Symbol → Option K) (f : K → Reader Symbol A) (h : A → Reader Symbol B) (ts : List Symbol) → on test (λ k. after (f k) h) ts ≡ then_read (on test f ts) h
+unfolding either fail after
+on_then test f h [] = refl
+on_then {A} {B} {K} test f h (x ∷ ts) = of_test (test x)
+  where
+    of_test : (o : Option K) → on_some o (λ k. then_read (f k ts) h) (Err (At (x ∷ ts))) ≡ then_read (on_some o (λ k. f k ts) (Err (At (x ∷ ts)))) h
+    of_test None = refl
+    of_test (Some k) = refl
+
+module _ (prelude : Bool) (room : ℕ) (s : SimpleText prelude true) (x : Symbol) (ts : List Symbol) where
+  abbrev else_then : Read Symbol (SimpleText prelude false) → Read Symbol (Turn (r.Heads prelude) (r.Ended prelude))
+  else_then read = then_read read (λ t. give (done (r.and_else s t)))
+
+  abbrev stored_else : DimsText prelude → Reader Symbol (SimpleText prelude false)
+  stored_else ds = on assign_of λ op. r.read_stored prelude room (codes "else") ds op
+
+  else_dims : r.read_dims prelude room (x ∷ ts) ≡ on_some (this_mark (codes "[") x) (λ _. r.dims_behind prelude room ts) (Ok (g.no_dims, x ∷ ts))
+  unfolding either give
+  else_dims = all_once (this_mark (codes "[")) (r.dims_more prelude room) (dims_reader prelude room) g.no_dims (x ∷ ts)
+
+  square_as_read : (u : Unit {0}) → this_mark (codes "[") x ≡ Some u → else_then (r.read_assign prelude room (codes "else") (x ∷ ts)) ≡ after (r.dims_behind prelude room) (λ ds. on assign_of λ op. r.read_two s (r.read_stored prelude room (codes "else") ds op)) ts
+  unfolding after
+  square_as_read u e =
+      ap (λ read. else_then (then_read read stored_else)) (else_dims ∙ ap (λ o. on_some o (λ _. r.dims_behind prelude room ts) (Ok (g.no_dims, x ∷ ts))) e)
+      ∙ then_then (r.dims_behind prelude room ts) stored_else (λ t. give (done (r.and_else s t)))
+      ∙ (λ i. then_read (r.dims_behind prelude room ts) (λ ds us. sym (on_then assign_of (λ op. r.read_stored prelude room (codes "else") ds op) (λ t. give (done (r.and_else s t))) us) i))
+
+  operator_as_read : (op : Option Op) → this_mark (codes "[") x ≡ None → assign_of x ≡ Some op → else_then (r.read_assign prelude room (codes "else") (x ∷ ts)) ≡ r.read_two s (r.read_stored prelude room (codes "else") g.no_dims op) ts
+  unfolding after either
+  operator_as_read op e q =
+      ap (λ read. else_then (then_read read stored_else)) (else_dims ∙ ap (λ o. on_some o (λ _. r.dims_behind prelude room ts) (Ok (g.no_dims, x ∷ ts))) e)
+      ∙ ap (λ o. else_then (on_some o (λ op. r.read_stored prelude room (codes "else") g.no_dims op ts) (fail (x ∷ ts)))) q
 
 -- ---- Statements without a body
 
-conds_inside_is : (prelude : Bool) (end room : ℕ) → Draws end conds_draft (conds_inside prelude end room) (inside (r.read_conds prelude) room)
-unfolding conds_inside inside deep
-conds_inside_is prelude end zero ts le = refl
-conds_inside_is prelude end (suc room) ts le = conds_is prelude end room ts le
+cond_inside_is : (prelude : Bool) (end room : ℕ) → Draws end cond_draft (cond_inside prelude end room) (inside (r.read_cond prelude true) room)
+unfolding cond_inside inside deep
+cond_inside_is prelude end zero ts le = refl
+cond_inside_is prelude end (suc room) ts le = cond_is prelude true end room ts le
 
 module _ (prelude : Bool) (end room : ℕ) where
   -- behind the first `;` of a `for`
@@ -204,8 +319,8 @@ module _ (prelude : Bool) (end room : ℕ) where
   if_is : (at : ℕ) (ts : List Symbol) → length ts ≤ end → end - length ts ≡ at + 2 → if_behind prelude end room at ts ≡ mapped (head_of at) (r.read_if prelude room ts)
   unfolding after
   if_is at ts le e =
-      then_is (conds_inside prelude end room ts) (inside (r.read_conds prelude) room ts) (conds_draft (end - length ts)) _ _ (head_of at) (conds_inside_is prelude end room ts le) (λ cs us q.
-      closed_is (codes ")") (r.if_head cs) _ (head_of at) us (λ i. if_head at (conds_draft (e i) cs)))
+      then_is (cond_inside prelude end room ts) (inside (r.read_cond prelude true) room ts) (cond_draft (end - length ts)) _ _ (head_of at) (cond_inside_is prelude end room ts le) (λ c us q.
+      closed_is (codes ")") (r.if_head c) _ (head_of at) us (λ i. if_head at (cond_draft (e i) c)))
 
   head_is : (at : ℕ) (is_for : Bool) (ts : List Symbol) → length ts ≤ end → end - length ts ≡ at + 2 → head_behind prelude end room at is_for ts ≡ mapped (head_of at) (r.read_head prelude room is_for ts)
   head_is at true ts le e = for_is at ts le e
@@ -223,23 +338,69 @@ module _ (prelude : Bool) (end room : ℕ) where
       then_is (value prelude end room vs) (r.read_value prelude room vs) (value_draft (end - length vs)) _ _ (simple_draft at) (value_is prelude end room vs less) (λ v ws q.
       closed_is (codes ";") (g.assign w ds op v) _ (simple_draft at) ws (λ i. d.assign (word_draft at w) (dims_draft (e i) ds) op (value_draft (place i) v)))))
 
-  assigned_under_is : (at n : ℕ) (o : Option (r.Heads prelude)) (w : Name) (ts : List Symbol) → n ≡ at + length (before_symbols o) → length ts ≤ end → end - length ts ≡ n + 1
-      → assigned_under prelude end room (option_map (heads_of at) o) n w ts ≡ mapped (turn_of at) (r.assigned_under prelude room o w ts)
-  unfolding after give
-  assigned_under_is at n o w ts e le place =
-      then_is (assigned prelude end room n w ts) (r.read_assign prelude room w ts) (simple_draft n) _ _ (turn_of at) (assigned_is n w ts le place) (λ s us q. ap (λ x. Ok (done x, us)) (sym (whole_is at n o s e)))
+  -- an open statement, and behind it an assignment to an array `else`
+  two_is : (at : ℕ) (o : Option (r.Heads prelude)) (c : CondText prelude true) (body : BodyText prelude false) (ts : List Symbol) → length ts + 1 ≤ end → end - length ts ≡ at + length (simple_symbols (r.opened o (g.if_then c body))) + 1
+      → then_read (assigned prelude end room (end - length ts - 1) (codes "else") ts) (λ t us. Ok (done (covered (before_of at o) (simple_draft (behind_heads at o) (g.if_then c body)) ∷ t ∷ []), us))
+      ≡ mapped (turn_of at) (then_read (r.read_assign prelude room (codes "else") ts) (λ t. give (done (r.and_else (r.opened o (g.if_then c body)) t))))
+  unfolding give
+  two_is at o c body ts le e =
+      let n = end - length ts - 1 in
+      let s = r.opened o (g.if_then c body) in
+      let place : n ≡ at + length (simple_symbols s) = omega arith in
+      then_is (assigned prelude end room n (codes "else") ts) (r.read_assign prelude room (codes "else") ts) (simple_draft n) _ _ (turn_of at) (assigned_is n (codes "else") ts (omega arith) (omega arith)) (λ t us q.
+      (λ i. Ok (done (sym (opened_is at o (g.if_then c body)) i ∷ simple_draft (place i) t ∷ []), us)))
 
-  worded_is : (at n : ℕ) (o : Option (r.Heads prelude)) (w : Name) (b : Option Bool) (ts : List Symbol) → n ≡ at + length (before_symbols o) → length ts ≤ end → end - length ts ≡ n + 1
-      → worded prelude end room (option_map (heads_of at) o) n w b ts ≡ mapped (turn_of at) (r.read_worded prelude room o w b ts)
+  else_is : (at : ℕ) (o : Option (r.Heads prelude)) (c : CondText prelude true) (body : BodyText prelude false) (ts : List Symbol) → length ts + 1 ≤ end → end - length ts ≡ at + length (simple_symbols (r.opened o (g.if_then c body))) + 1
+      → else_behind prelude end room (before_of at o) (behind_heads at o) (cond_draft (behind_heads at o + 2) c) (body_draft (behind_heads at o + 2 + length (cond_symbols c) + 1) body) ts ≡ mapped (turn_of at) (r.read_else prelude room o c body ts)
+  unfolding either give
+  else_is at o c body [] le e = ap (λ x. Ok (going x, [])) (sym (one_is at o (r.else_head c body)))
+  else_is at o c body (x ∷ ts) le e = of_tests (this_mark (codes "[") x) refl (assign_of x) refl
+    where
+      of_tests : (u : Option (Unit {0})) → this_mark (codes "[") x ≡ u → (v : Option (Option Op)) → assign_of x ≡ v
+          → (if is_some u || is_some v
+          then then_read (assigned prelude end room (end - length (x ∷ ts) - 1) (codes "else") (x ∷ ts)) (λ t us. Ok (done (covered (before_of at o) (simple_draft (behind_heads at o) (g.if_then c body)) ∷ t ∷ []), us))
+          else Ok (going (behind (before_of at o) (head_of (behind_heads at o) (r.else_head c body))), x ∷ ts))
+          ≡ mapped (turn_of at) (on_some u (λ _. after (r.dims_behind prelude room) (λ ds. on assign_of λ op. r.read_two (r.opened o (g.if_then c body)) (r.read_stored prelude room (codes "else") ds op)) ts)
+          (on_some v (λ op. r.read_two (r.opened o (g.if_then c body)) (r.read_stored prelude room (codes "else") g.no_dims op) ts) (Ok (going (r.and_one o (r.else_head c body)), x ∷ ts))))
+      of_tests (Some u) p v q = two_is at o c body (x ∷ ts) le e ∙ ap (mapped (turn_of at)) (square_as_read prelude room (r.opened o (g.if_then c body)) x ts u p)
+      of_tests None p (Some op) q = two_is at o c body (x ∷ ts) le e ∙ ap (mapped (turn_of at)) (operator_as_read prelude room (r.opened o (g.if_then c body)) x ts op p q)
+      of_tests None p None q = ap (λ y. Ok (going y, x ∷ ts)) (sym (one_is at o (r.else_head c body)))
+
+  closing_is : (at : ℕ) (k : r.Closing prelude) (ts : List Symbol) → length ts ≤ end → end - length ts ≡ at + length (closing_symbols k) → closed_behind prelude end room (closing_of at k) ts ≡ mapped (turn_of at) (r.read_closing prelude room k ts)
+  unfolding give
+  closing_is at (r.closed s) ts le e = refl
+  closing_is at (r.waiting o c body) ts le e =
+      either_mapped (this_word (codes "else")) _ _ (λ _ us. else_behind prelude end room (before_of at o) (behind_heads at o) (cond_draft (behind_heads at o + 2) c) (body_draft (behind_heads at o + 2 + length (cond_symbols c) + 1) body) us) _ (turn_of at) ts
+      (λ k us p.
+      let first = past_one (this_word (codes "else")) ts k us p in
+      let whole = ap length (opened_symbols o (g.if_then c body)) in
+      else_is at o c body us (omega arith) (omega arith))
+      (ap (λ s. Ok (done (s ∷ []), ts)) (sym (opened_is at o (g.if_then c body))))
+
+  assigned_under_is : (at n : ℕ) (o : Option (r.Heads prelude)) (w : Name) (ts : List Symbol) → n ≡ behind_heads at o → length ts ≤ end → end - length ts ≡ n + 1
+      → assigned_under prelude end room (before_of at o) n w ts ≡ mapped (turn_of at) (r.assigned_under prelude room o w ts)
+  unfolding after
+  assigned_under_is at n o w ts e le place =
+      then_is (assigned prelude end room n w ts) (r.read_assign prelude room w ts) (simple_draft n) _ _ (turn_of at) (assigned_is n w ts le place) (λ s us q.
+      let count = ap length ((assign_rule prelude room w).sound ts s us q) in
+      let back = length-append (simple_symbols s) us in
+      let whole = ap length (close_one_symbols o s) in
+      let parts = length-append (before_symbols o) (simple_symbols s) in
+      ap (λ k. closed_behind prelude end room k us) (ap (λ m. close (before_of at o) (simple_draft m s)) e ∙ sym (close_one_is at o s))
+      ∙ closing_is at (r.close_one o s) us (omega arith) (omega arith))
+
+  worded_is : (at n : ℕ) (o : Option (r.Heads prelude)) (w : Name) (b : Option Bool) (ts : List Symbol) → n ≡ behind_heads at o → length ts ≤ end → end - length ts ≡ n + 1
+      → worded prelude end room (before_of at o) n w b ts ≡ mapped (turn_of at) (r.read_worded prelude room o w b ts)
   unfolding after give
   worded_is at n o w None ts e le place = assigned_under_is at n o w ts e le place
   worded_is at n o w (Some is_for) ts e le place =
-      either_mapped (this_mark (codes "(")) _ _ (λ _ us. then_read (head_behind prelude end room n is_for us) (λ h vs. Ok (going (and_one (option_map (heads_of at) o) h), vs))) _ (turn_of at) ts
+      either_mapped (this_mark (codes "(")) _ _ (λ _ us. then_read (head_behind prelude end room n is_for us) (λ h vs. Ok (going (behind (before_of at o) h), vs))) _ (turn_of at) ts
       (λ k us c.
       let first = past_one (this_mark (codes "(")) ts k us c in
       let less : length us ≤ end = omega arith in
-      let behind : end - length us ≡ n + 2 = omega arith in
-      then_is (head_behind prelude end room n is_for us) (r.read_head prelude room is_for us) (head_of n) _ _ (turn_of at) (head_is n is_for us less behind) (λ h vs q. ap (λ x. Ok (going x, vs)) (sym (one_is at n o h e))))
+      let place : end - length us ≡ n + 2 = omega arith in
+      then_is (head_behind prelude end room n is_for us) (r.read_head prelude room is_for us) (head_of n) _ _ (turn_of at) (head_is n is_for us less place) (λ h vs q.
+      ap (λ x. Ok (going x, vs)) (ap (λ m. behind (before_of at o) (head_of m h)) e ∙ sym (one_is at o h))))
       (assigned_under_is at n o w ts e le place)
 
 -- ---- Statements; what stands behind a "{" is read by `body`, and by `inner` where it is a block's
@@ -307,18 +468,23 @@ module _ (prelude : Bool) (end room : ℕ) (body : Reader Symbol (StmtsText prel
       let e = here.place in
       let less : length us ≤ end = omega arith in
       let before : end - length us - 1 ≡ n = omega arith in
-      let behind : end - length us ≡ n + 1 = omega arith in
-      ap (λ m. worded prelude end room (Some (heads_of at hs)) m w (choose head_words w) us) before
-      ∙ worded_is prelude end room at n (Some hs) w (choose head_words w) us refl less behind
+      let place : end - length us ≡ n + 1 = omega arith in
+      ap (λ m. worded prelude end room (listed (heads_of at hs)) m w (choose head_words w) us) before
+      ∙ worded_is prelude end room at n (Some hs) w (choose head_words w) us refl less place
   turn_is at a_brace hs ts us c here =
       let n = at + length (heads_symbols hs) in
       let one = past_one first_of ts a_brace us c in
       let le = here.within in
       let e = here.place in
       let less : length us ≤ end = omega arith in
-      let behind : end - length us ≡ n + 1 = omega arith in
+      let place : end - length us ≡ n + 1 = omega arith in
       then_is (drawn_body us) (body us) (stmts_draft (end - length us)) _ _ (turn_of at) (h us less) (λ ss vs q.
-      ap (λ m. Ok (done (under (heads_of at hs) (stmts_draft m ss)), vs)) behind ∙ ap (λ x. Ok (done x, vs)) (sym (under_is at hs (g.braces ss))))
+      let count = ap length (body_rule.sound us ss vs q) in
+      let back = length-append (closed_symbols ss) vs in
+      let whole = ap length (close_symbols hs (g.braces ss)) in
+      let parts = length-append (heads_symbols hs) (body_symbols (g.braces ss)) in
+      ap (λ k. closed_behind prelude end room k vs) (ap (λ m. under_one (heads_of at hs).outer (heads_of at hs).inner (stmts_draft m ss)) place ∙ sym (close_is at hs (g.braces ss)))
+      ∙ closing_is prelude end room at (r.close hs (g.braces ss)) vs (omega arith) (omega arith))
 
   turn_keeps : (at : ℕ) (first : First) (hs : r.Heads prelude) (ts us : List Symbol) → past first_of ts ≡ Some (first, us) → Placed end at (length (heads_symbols hs)) ts
       → (b : r.Heads prelude) (vs : List Symbol) → r.read_body prelude room body first hs us ≡ Ok (going b, vs) → Placed end at (length (heads_symbols b)) vs
@@ -331,45 +497,43 @@ module _ (prelude : Bool) (end room : ℕ) (body : Reader Symbol (StmtsText prel
       let back = length-append (heads_symbols b) vs in
       record { within = omega arith; place = omega arith }
 
-  on_heads_is : (at : ℕ) (t : Turn (r.Heads prelude) (SimpleText prelude)) (us : List Symbol) → Placed end at (length (progress_symbols t)) us
-      → going_on (under_heads prelude end room drawn_body) (turn_of at t) us ≡ mapped (simple_draft at) (r.read_under prelude room body t us)
+  on_heads_is : (at : ℕ) (t : Turn (r.Heads prelude) (r.Ended prelude)) (us : List Symbol) → Placed end at (length (progress_symbols t)) us
+      → going_on (under_heads prelude end room drawn_body) (turn_of at t) us ≡ mapped (ended_of at) (r.read_under prelude room body t us)
   unfolding give
   on_heads_is at (going hs) us here =
-      until_drawn first_of (r.read_body prelude room body) (body_turn prelude end room drawn_body) (heads_of at) (simple_draft at) (λ hs ts. Placed end at (length (heads_symbols hs)) ts) (turn_is at) (turn_keeps at) hs us here
-  on_heads_is at (done s) us here = refl
+      until_drawn first_of (r.read_body prelude room body) (body_turn prelude end room drawn_body) (heads_of at) (ended_of at) (λ hs ts. Placed end at (length (heads_symbols hs)) ts) (turn_is at) (turn_keeps at) hs us here
+  on_heads_is at (done e) us here = refl
 
-  simple_is : (at : ℕ) (w : Name) (us : List Symbol) → length us ≤ end → end - length us ≡ at + 1 → simple prelude end room drawn_body at w us ≡ mapped (simple_draft at) (r.read_simple prelude room body w us)
+  simple_is : (at : ℕ) (w : Name) (us : List Symbol) → length us ≤ end → end - length us ≡ at + 1 → simple prelude end room drawn_body at w us ≡ mapped (ended_of at) (r.read_simple prelude room body w us)
   unfolding after
   simple_is at w us le e =
-      then_is (worded prelude end room None at w (choose head_words w) us) (r.read_worded prelude room None w (choose head_words w) us) (turn_of at) (r.read_under prelude room body) (going_on (under_heads prelude end room drawn_body)) (simple_draft at)
+      then_is (worded prelude end room [] at w (choose head_words w) us) (r.read_worded prelude room None w (choose head_words w) us) (turn_of at) (r.read_under prelude room body) (going_on (under_heads prelude end room drawn_body)) (ended_of at)
       (worded_is prelude end room at at None w (choose head_words w) us (omega arith) le e) (λ t vs q.
       let count = ap length ((worded_rule prelude room None w (choose head_words w) refl).sound us t vs q) in
       let back = length-append (progress_symbols t) vs in
       on_heads_is at t vs (record { within = omega arith; place = omega arith }))
 
   pub statement_is : (at : ℕ) (first : First) (ts us : List Symbol) → past first_of ts ≡ Some (first, us) → length ts ≤ end → end - length ts ≡ at
-      → statement prelude end room drawn_body drawn_inner first us ≡ mapped (stmt_draft at) (r.read_stmt prelude room body inner first us)
-  unfolding after
+      → statement prelude end room drawn_body drawn_inner first us ≡ mapped (ended_of at) (r.read_stmt prelude room body inner first us)
+  unfolding after give
   statement_is at (a_word w) ts us c le e =
       let one = past_one first_of ts (a_word w) us c in
       let less : length us ≤ end = omega arith in
       let before : end - length us - 1 ≡ at = omega arith in
-      let behind : end - length us ≡ at + 1 = omega arith in
-      ap (λ m. simple prelude end room drawn_body m w us) before
-      ∙ simple_is at w us less behind
-      ∙ sym (lifted (r.read_simple prelude room body w us) g.simple (simple_draft at) (stmt_draft at) (λ s. refl))
+      let place : end - length us ≡ at + 1 = omega arith in
+      ap (λ m. simple prelude end room drawn_body m w us) before ∙ simple_is at w us less place
   statement_is at a_brace ts us c le e =
       let one = past_one first_of ts a_brace us c in
       let less : length us + 1 ≤ end = omega arith in
       let before : end - length us - 1 ≡ at = omega arith in
-      k us less ∙ ap (λ m. mapped (stmt_draft m) (inner us)) before
+      then_is (drawn_inner us) (inner us) (stmt_draft (end - length us - 1)) _ _ (ended_of at) (k us less) (λ s vs q. ap (λ m. Ok (stmt_draft m s ∷ [], vs)) before)
 
   stmt_more_is : (p : ℕ) (first : First) (left : StmtsText prelude) (ts us : List Symbol) → past first_of ts ≡ Some (first, us) → Placed end p (length (stmts_symbols left)) ts
       → stmt_more prelude end room drawn_body drawn_inner first (stmts_draft p left) us ≡ mapped (stmts_draft p) (r.stmt_more prelude room body inner first left us)
   unfolding after give
   stmt_more_is p first left ts us c here =
       let n = p + length (stmts_symbols left) in
-      then_is (statement prelude end room drawn_body drawn_inner first us) (r.read_stmt prelude room body inner first us) (stmt_draft n) _ _ (stmts_draft p) (statement_is n first ts us c here.within here.place) (λ s vs q. refl)
+      then_is (statement prelude end room drawn_body drawn_inner first us) (r.read_stmt prelude room body inner first us) (ended_of n) _ _ (stmts_draft p) (statement_is n first ts us c here.within here.place) (λ e vs q. ap (λ x. Ok (x, vs)) (ended_after p left e))
 
   stmt_more_keeps : (p : ℕ) (first : First) (left : StmtsText prelude) (ts us : List Symbol) → past first_of ts ≡ Some (first, us) → Placed end p (length (stmts_symbols left)) ts
       → (b : StmtsText prelude) (vs : List Symbol) → r.stmt_more prelude room body inner first left us ≡ Ok (b, vs) → Placed end p (length (stmts_symbols b)) vs
@@ -392,7 +556,7 @@ module _ (prelude : Bool) (end room : ℕ) (body : Reader Symbol (StmtsText prel
   unfolding after give
   block_stmt_is p first ls ss ts us c le e =
       let n = p + length (locals_symbols ls) + length (stmts_symbols ss) in
-      then_is (statement prelude end room drawn_body drawn_inner first us) (r.read_stmt prelude room body inner first us) (stmt_draft n) _ _ (block_of p) (statement_is n first ts us c le e) (λ s vs q. refl)
+      then_is (statement prelude end room drawn_body drawn_inner first us) (r.read_stmt prelude room body inner first us) (ended_of n) _ _ (block_of p) (statement_is n first ts us c le e) (λ e vs q. (λ i. Ok (record { locals = locals_draft p ls; stmts = ended_after (p + length (locals_symbols ls)) ss e i }, vs)))
 
 -- ---- Blocks
 

@@ -4,7 +4,7 @@ use Rattle.std.proofs.Math.Dec.{eqb-suc-zero}
 use Rattle.std.proofs.lemmas.List.{map-append}
 use Rattle.affc_grammar.specs.Grammar.{Symbol, Name}
 use Rattle.affc_grammar.specs.Draft as d
-use Rattle.affc_grammar.specs.Draft.{IxDraft, CompareDraft, WordDraft, word_draft, bound_rel}
+use Rattle.affc_grammar.specs.Draft.{IxDraft, CondDraft, WordDraft, word_draft, bound_rel}
 use Rattle.affc_grammar.specs.Reader.{Stop, At, Deep, Reader, then_read, Turn, going, done}
 use Rattle.affc_grammar.specs.Reading.{this_mark, this_word, any_word, one, bound_of, assign_of, choose, head_words, First, a_word, a_brace, first_of}
 use Rattle.affc_grammar.proofs.Closed.{then_same}
@@ -17,14 +17,15 @@ use Rattle.affc_syntax.specs.declared.ahead.Stop.TheVariants as s
 use Rattle.affc_syntax.specs.Ahead.{past, with_rest}
 use Rattle.affc_syntax.specs.Readers.{on_past, Fails}
 use Rattle.affc_syntax.specs.IxReading as ix
-use Rattle.affc_syntax.specs.CondReading.{conds}
+use Rattle.affc_syntax.specs.CondReading as condition
 use Rattle.affc_syntax.specs.ValueReading.{value}
 use Rattle.affc_syntax.proofs.Readers.{Left, Shrinks, left_give, left_fail, left_then, on_test, past_shorter, loop_on, loop_end, loop_stop, all_left, closed_left, less_left}
 use Rattle.affc_syntax.proofs.IxReads.{inside_left, expression_left, dims_left}
-use Rattle.affc_syntax.proofs.CondReads.{conds_left}
+use Rattle.affc_syntax.proofs.CondReads.{whole_left as condition_left}
 use Rattle.affc_syntax.proofs.ValueReads.{value_left}
-use Rattle.affc_text.specs.Parts.{Head, for_head, if_head, Heads, Block, no_items, with_head, covered, under, and_one, whole, stmts}
-use Rattle.affc_text.specs.StmtReading.{conds_inside, expression, compared, assignment, named, stepped, step, step_closed, tested, for_behind, if_behind, head_behind, assigned, assigned_under, worded, body_turn, going_on, tries_more, until_done, under_heads, simple, statement, stmt_more, is_none, local, local_behind, block_stmt, may_be_local, block_more, stmts_inside, block_inside, stmts as read_stmts, items}
+use Rattle.affc_text.specs.declared.statement.Head as code_head
+use Rattle.affc_text.specs.Parts.{Head, for_head, if_head, else_head, Heads, Closing, closed, waiting, Block, no_items, head_seen, with_head, alone, covered, listed, over, over_closed, close, under_one, stmts}
+use Rattle.affc_text.specs.StmtReading.{cond_inside, expression, compared, assignment, named, stepped, step, step_closed, tested, for_behind, if_behind, head_behind, assigned, is_assigned, else_behind, closed_behind, assigned_under, worded, body_turn, going_on, tries_more, until_done, under_heads, simple, statement, stmt_more, is_none, local, local_behind, block_stmt, may_be_local, block_more, stmts_inside, block_inside, stmts as read_stmts, items}
 
 -- ---- Lists of statements and of heads
 
@@ -35,6 +36,13 @@ after_pushed ss (y ∷ ys) x = after_pushed (d.and_stmt ss y) ys x
 pub stmts_pushed : (xs : List StmtDraft) (x : StmtDraft) → stmts_of (map stmt (xs ++ x ∷ [])) ≡ d.and_stmt (stmts_of (map stmt xs)) (stmt x)
 stmts_pushed xs x = ap stmts_of (map-append stmt xs (x ∷ [])) ∙ after_pushed d.no_stmts (map stmt xs) (stmt x)
 
+after-append : (ss : d.StmtsDraft) (xs ys : List d.StmtDraft) → stmts_after ss (xs ++ ys) ≡ stmts_after (stmts_after ss xs) ys
+after-append ss [] ys = refl
+after-append ss (x ∷ xs) ys = after-append (d.and_stmt ss x) xs ys
+
+pub stmts_appended : (xs ys : List StmtDraft) → stmts_of (map stmt (xs ++ ys)) ≡ stmts_after (stmts_of (map stmt xs)) (map stmt ys)
+stmts_appended xs ys = ap stmts_of (map-append stmt xs ys) ∙ after-append d.no_stmts (map stmt xs) (map stmt ys)
+
 some_after : (ss : d.StmtsDraft) (x : d.StmtDraft) (xs : List d.StmtDraft) → is_none (stmts_after (d.and_stmt ss x) xs) ≡ false
 some_after ss x [] = refl
 some_after ss x (y ∷ ys) = some_after (d.and_stmt ss x) y ys
@@ -43,11 +51,35 @@ pub is_none_is : (xs : List StmtDraft) → nat_eq (length xs) 0 ≡ is_none (stm
 is_none_is [] = refl
 is_none_is (x ∷ xs) = eqb-suc-zero (length xs) ∙ sym (some_after d.no_stmts (stmt x) (map stmt xs))
 
-pub covered_last : (hs : List Head) (h : Head) (s : d.StmtDraft) → covered (hs ++ h ∷ []) s ≡ covered hs (with_head h (d.and_stmt d.no_stmts s))
+pub covered_last : (hs : List Head) (h : Head) (s : d.StmtDraft) → covered (hs ++ h ∷ []) s ≡ covered hs (with_head h (alone s))
 covered_last [] h s = refl
-covered_last (k ∷ hs) h s = ap (λ t. with_head k (d.and_stmt d.no_stmts t)) (covered_last hs h s)
+covered_last (k ∷ hs) h s = ap (λ t. with_head k (alone t)) (covered_last hs h s)
 
-pub ruleset parts = (map-append, stmts_pushed)
+first_under : (h : Head) (s : d.StmtDraft) → over_closed h s ≡ under_one [] h (alone s)
+first_under (for_head k) s = refl
+first_under (if_head at c) s = refl
+first_under (else_head at c body) s = refl
+
+over_under : (k : Head) (hs : List Head) (h : Head) (body : d.StmtsDraft) → over k (under_one hs h body) ≡ under_one (k ∷ hs) h body
+over_under k hs (for_head g) body = refl
+over_under k hs (if_head at c) body = refl
+over_under k hs (else_head at c first) body = refl
+
+pub close_last : (hs : List Head) (h : Head) (s : d.StmtDraft) → close (hs ++ h ∷ []) s ≡ under_one hs h (alone s)
+close_last [] h s = first_under h s
+close_last (k ∷ hs) h s = ap (over k) (close_last hs h s) ∙ over_under k hs h (alone s)
+
+-- the heads before the last, and the last over what is read
+pub close_on : (heads left : List code_head.Head) (h k : code_head.Head) (s : StmtDraft) (body : d.StmtsDraft) → heads ≡ left ++ h ∷ [] → h ≡ k → body ≡ alone (stmt s) → under_one (map head_seen left) (head_seen k) body ≡ close (map head_seen heads) (stmt s)
+close_on heads left h k s body e q b =
+    (λ i. under_one (map head_seen left) (head_seen (sym q i)) (b i))
+    ∙ sym (close_last (map head_seen left) (head_seen h) (stmt s))
+    ∙ ap (λ l. close l (stmt s)) (sym (map-append head_seen left (h ∷ [])) ∙ ap (map head_seen) (sym e))
+
+abbrev pub behind : List Head → Head → Heads
+behind hs h = record { outer = hs; inner = h }
+
+pub ruleset parts = (map-append, stmts_pushed, stmts_appended)
 
 pub ruleset nones = (is_none_is)
 
@@ -150,10 +182,10 @@ local_left end room ts =
     left_then (expression true end room vs) _ (length vs) (expression_left true end (ix.inside true end room) (inside_left true end room) vs) (λ a. closed_left (codes ";") _))
     (left_fail (At us) (length us)))
 
-conds_inside_left : (prelude : Bool) (end room : ℕ) → Shrinks (conds_inside prelude end room)
-unfolding conds_inside
-conds_inside_left prelude end zero ts = left_fail Deep (length ts)
-conds_inside_left prelude end (suc room) ts = conds_left prelude end room ts
+cond_inside_left : (prelude : Bool) (end room : ℕ) → Shrinks (cond_inside prelude end room)
+unfolding cond_inside
+cond_inside_left prelude end zero ts = left_fail Deep (length ts)
+cond_inside_left prelude end (suc room) ts = condition_left prelude true end room ts
 
 module _ (prelude : Bool) (end room : ℕ) where
   pub whole_left : Shrinks (expression prelude end room)
@@ -177,7 +209,7 @@ module _ (prelude : Bool) (end room : ℕ) where
       (left_fail (At ts) (length ts))
 
   if_left : (at : ℕ) → Shrinks (if_behind prelude end room at)
-  if_left at ts = left_then (conds_inside prelude end room ts) _ (length ts) (conds_inside_left prelude end room ts) (λ cs. closed_left (codes ")") (if_head at cs))
+  if_left at ts = left_then (cond_inside prelude end room ts) _ (length ts) (cond_inside_left prelude end room ts) (λ c. closed_left (codes ")") (if_head at c))
 
   head_left : (at : ℕ) (is_for : Bool) → Shrinks (head_behind prelude end room at is_for)
   head_left at true ts = for_left at ts
@@ -189,36 +221,48 @@ module _ (prelude : Bool) (end room : ℕ) where
       left_then (assignment us) _ (length us) (assignment_left us) (λ op vs.
       left_then (value prelude end room vs) _ (length vs) (value_left prelude end room vs) (λ v. closed_left (codes ";") (d.assign (word_draft at w) subs op v))))
 
-  assigned_under_left : (hs : Option Heads) (at : ℕ) (w : Name) → Shrinks (assigned_under prelude end room hs at w)
-  assigned_under_left hs at w ts = left_then (assigned prelude end room at w ts) _ (length ts) (assigned_left at w ts) (λ s us. left_give (done (whole hs s)) us (length us) (omega arith))
+  else_left : (hs : List Head) (at : ℕ) (c : CondDraft) (body : d.StmtsDraft) → Shrinks (else_behind prelude end room hs at c body)
+  else_left hs at c body ts = of_test (is_assigned ts)
+    where
+      of_test : (t : Bool) → Left (if t then then_read (assigned prelude end room (end - length ts - 1) (codes "else") ts) (λ t us. Ok (done (covered hs (d.if_cond at c body d.no_stmts) ∷ t ∷ []), us)) else Ok (going (behind hs (else_head at c body)), ts)) (length ts)
+      of_test true = left_then (assigned prelude end room (end - length ts - 1) (codes "else") ts) _ (length ts) (assigned_left (end - length ts - 1) (codes "else") ts) (λ t us. left_give (done (covered hs (d.if_cond at c body d.no_stmts) ∷ t ∷ [])) us (length us) (omega arith))
+      of_test false = left_give (going (behind hs (else_head at c body))) ts (length ts) (omega arith)
 
-  worded_left : (hs : Option Heads) (at : ℕ) (w : Name) (o : Option Bool) → Shrinks (worded prelude end room hs at w o)
+  closed_behind_left : (k : Closing) → Shrinks (closed_behind prelude end room k)
+  closed_behind_left (closed s) ts = left_give (done (s ∷ [])) ts (length ts) (omega arith)
+  closed_behind_left (waiting hs at c body) ts =
+      on_test (this_word (codes "else")) _ _ ts (λ _ us. else_left hs at c body us) (left_give (done (covered hs (d.if_cond at c body d.no_stmts) ∷ [])) ts (length ts) (omega arith))
+
+  assigned_under_left : (hs : List Head) (at : ℕ) (w : Name) → Shrinks (assigned_under prelude end room hs at w)
+  assigned_under_left hs at w ts = left_then (assigned prelude end room at w ts) _ (length ts) (assigned_left at w ts) (λ s us. closed_behind_left (close hs s) us)
+
+  worded_left : (hs : List Head) (at : ℕ) (w : Name) (o : Option Bool) → Shrinks (worded prelude end room hs at w o)
   worded_left hs at w None ts = assigned_under_left hs at w ts
   worded_left hs at w (Some is_for) ts =
-      on_test (this_mark (codes "(")) _ _ ts (λ _ us. left_then (head_behind prelude end room at is_for us) _ (length us) (head_left at is_for us) (λ h vs. left_give (going (and_one hs h)) vs (length vs) (omega arith)))
+      on_test (this_mark (codes "(")) _ _ ts (λ _ us. left_then (head_behind prelude end room at is_for us) _ (length us) (head_left at is_for us) (λ h vs. left_give (going (behind hs h)) vs (length vs) (omega arith)))
       (assigned_under_left hs at w ts)
 
   module _ (body : Reader Symbol d.StmtsDraft) (inner : Reader Symbol d.StmtDraft) (h : Shrinks body) (k : Shrinks inner) where
     pub body_turn_left : (first : First) (hs : Heads) → Shrinks (body_turn prelude end room body first hs)
-    body_turn_left (a_word w) hs us = worded_left (Some hs) (end - length us - 1) w (choose head_words w) us
-    body_turn_left a_brace hs us = left_then (body us) _ (length us) (h us) (λ ss vs. left_give (done (under hs ss)) vs (length vs) (omega arith))
+    body_turn_left (a_word w) hs us = worded_left (listed hs) (end - length us - 1) w (choose head_words w) us
+    body_turn_left a_brace hs us = left_then (body us) _ (length us) (h us) (λ ss vs. closed_behind_left (under_one hs.outer hs.inner ss) vs)
 
-    on_heads : (r : Turn Heads d.StmtDraft) → Shrinks (going_on (under_heads prelude end room body) r)
+    on_heads : (r : Turn Heads (List d.StmtDraft)) → Shrinks (going_on (under_heads prelude end room body) r)
     on_heads (going hs) = until_left first_of (body_turn prelude end room body) body_turn_left hs
     on_heads (done c) = λ us. left_give c us (length us) (omega arith)
 
     simple_left : (at : ℕ) (w : Name) → Shrinks (simple prelude end room body at w)
-    simple_left at w ts = left_then (worded prelude end room None at w (choose head_words w) ts) _ (length ts) (worded_left None at w (choose head_words w) ts) on_heads
+    simple_left at w ts = left_then (worded prelude end room [] at w (choose head_words w) ts) _ (length ts) (worded_left [] at w (choose head_words w) ts) on_heads
 
     pub statement_left : (first : First) → Shrinks (statement prelude end room body inner first)
     statement_left (a_word w) us = simple_left (end - length us - 1) w us
-    statement_left a_brace us = k us
+    statement_left a_brace us = left_then (inner us) _ (length us) (k us) (λ s vs. left_give (s ∷ []) vs (length vs) (omega arith))
 
     pub stmt_more_left : (first : First) (ss : d.StmtsDraft) → Shrinks (stmt_more prelude end room body inner first ss)
-    stmt_more_left first ss us = left_then (statement prelude end room body inner first us) _ (length us) (statement_left first us) (λ s vs. left_give (d.and_stmt ss s) vs (length vs) (omega arith))
+    stmt_more_left first ss us = left_then (statement prelude end room body inner first us) _ (length us) (statement_left first us) (λ read vs. left_give (stmts_after ss read) vs (length vs) (omega arith))
 
     block_stmt_left : (first : First) (b : Block) → Shrinks (block_stmt prelude end room body inner first b)
-    block_stmt_left first b us = left_then (statement prelude end room body inner first us) _ (length us) (statement_left first us) (λ s vs. left_give (record { locals = b.locals; stmts = d.and_stmt b.stmts s }) vs (length vs) (omega arith))
+    block_stmt_left first b us = left_then (statement prelude end room body inner first us) _ (length us) (statement_left first us) (λ read vs. left_give (record { locals = b.locals; stmts = stmts_after b.stmts read }) vs (length vs) (omega arith))
 
     pub block_more_left : (first : First) (b : Block) → Shrinks (block_more prelude end room body inner first b)
     block_more_left first b us = of_test (may_be_local prelude first b.stmts)
@@ -274,7 +318,7 @@ module _ (prelude : Bool) (room : ℕ) (symbols : List code.Symbol) (n b : ℕ) 
   pub heads_on : (hs x : Heads) (r : ℕ) → body_turn prelude text_end room body first hs (drop b (map seen symbols)) ≡ Ok (going x, drop r (map seen symbols)) → under_heads prelude text_end room body hs (drop n (map seen symbols)) ≡ under_heads prelude text_end room body x (drop r (map seen symbols))
   heads_on hs x r q = until_on first_of (body_turn prelude text_end room body) turn_shrinks hs _ first _ x _ e q
 
-  pub heads_done : (hs : Heads) (c : d.StmtDraft) (r : ℕ) → body_turn prelude text_end room body first hs (drop b (map seen symbols)) ≡ Ok (done c, drop r (map seen symbols)) → under_heads prelude text_end room body hs (drop n (map seen symbols)) ≡ Ok (c, drop r (map seen symbols))
+  pub heads_done : (hs : Heads) (c : List d.StmtDraft) (r : ℕ) → body_turn prelude text_end room body first hs (drop b (map seen symbols)) ≡ Ok (done c, drop r (map seen symbols)) → under_heads prelude text_end room body hs (drop n (map seen symbols)) ≡ Ok (c, drop r (map seen symbols))
   heads_done hs c r q = until_whole first_of (body_turn prelude text_end room body) turn_shrinks hs _ first _ c _ e q
 
   pub heads_less : (hs x : Heads) (r : ℕ) → body_turn prelude text_end room body first hs (drop b (map seen symbols)) ≡ Ok (going x, drop r (map seen symbols)) → length symbols - r < length symbols - n
@@ -308,7 +352,7 @@ module _ (prelude : Bool) (room : ℕ) (symbols : List code.Symbol) (n : ℕ) (e
   pub items_end : (left : Block) → items prelude (length symbols) room left (drop n (map seen symbols)) ≡ Ok (left, drop n (map seen symbols))
   items_end left = loop_end first_of (block_more prelude (length symbols) room (stmts_inside prelude (length symbols) room) (block_inside prelude (length symbols) room)) (block_more_left prelude (length symbols) room (stmts_inside prelude (length symbols) room) (block_inside prelude (length symbols) room) (stmts_inside_left prelude (length symbols) room) (block_inside_left prelude (length symbols) room)) left _ e
 
-pub conds_inside_on : (prelude : Bool) (end room : ℕ) (ts : List Symbol) → (room ≡ 0 → ⊥) → conds prelude end (room - 1) ts ≡ conds_inside prelude end room ts
-unfolding conds_inside
-conds_inside_on prelude end zero ts n = absurd (n refl)
-conds_inside_on prelude end (suc room) ts n = let e : suc room - 1 ≡ room = omega arith in ap (λ m. conds prelude end m ts) e
+pub cond_inside_on : (prelude : Bool) (end room : ℕ) (ts : List Symbol) → (room ≡ 0 → ⊥) → condition.whole prelude true end (room - 1) ts ≡ cond_inside prelude end room ts
+unfolding cond_inside
+cond_inside_on prelude end zero ts n = absurd (n refl)
+cond_inside_on prelude end (suc room) ts n = let e : suc room - 1 ≡ room = omega arith in ap (λ m. condition.whole prelude true end m ts) e

@@ -4,13 +4,13 @@ use Rattle.std.specs.Option.{option_map, is_some}
 use Rattle.affc_lex.specs.Bytes.{same, decimal}
 use Rattle.affc_ast.specs.declared.tree.Role.TheVariants.{Input, Output, Temp}
 use Rattle.affc_grammar.specs.Grammar as g
-use Rattle.affc_grammar.specs.Grammar.{Symbol, Name, LineText, line_feed, text_end, mark, word, StmtsText, ParamText, ParamsText, NamesText, DeclsText, FunctionText, PragmasText, Text, has_call, context_calls, ix_symbols, dims_symbols, dim_symbols, conds_symbols, stmts_symbols, const_symbols, param_symbols, params_symbols, names_symbols, decls_symbols, function_symbols, int_symbols, line_symbols, pragmas_symbols, include_symbols, prelude_symbols}
+use Rattle.affc_grammar.specs.Grammar.{Symbol, Name, LineText, line_feed, text_end, mark, word, StmtsText, ParamText, ParamsText, NamesText, DeclsText, FunctionText, PragmasText, Text, has_call, context_calls, ix_symbols, dims_symbols, dim_symbols, cond_symbols, stmts_symbols, const_symbols, param_symbols, params_symbols, names_symbols, decls_symbols, function_symbols, int_symbols, line_symbols, pragmas_symbols, include_symbols, prelude_symbols}
 use Rattle.affc_grammar.specs.Draft as d
-use Rattle.affc_grammar.specs.Draft.{StmtsDraft, and_stmt, no_stmts, IxDraft, DeclDraft, ParamDraft, number_param, array_param, word_draft, ix_draft, dims_draft, conds_draft, stmts_draft, stmt_draft, array_role, param_draft, params_draft, temp_draft, names_draft, decls_draft, int_value, pragmas_draft, text_draft}
+use Rattle.affc_grammar.specs.Draft.{IxDraft, DeclDraft, ParamDraft, number_param, array_param, comparisons_in, word_draft, ix_draft, dims_draft, cond_draft, stmts_draft, array_role, param_draft, params_draft, temp_draft, names_draft, decls_draft, int_value, pragmas_draft, text_draft}
 use Rattle.affc_grammar.specs.Reader.{At, Deep, Read, Reader, then_read, give, fail, deep, after, either, on, all, inside, finished}
 use Rattle.affc_grammar.specs.Reading as r
 use Rattle.affc_grammar.specs.Reading.{this_mark, this_word, any_word, any_number, is_number_kind, hash, header, the_prelude, line_end, First, a_word, a_brace, first_of, read_text, holding}
-use Rattle.affc_grammar.proofs.Rules.{ix_inside_rule, dims_rule, conds_rule, inside_rule, param_rule, param_more_rule, params_rule, name_more_rule, inside_symbols, inside_more_rule, pragma_rule, stmts_inside_rule, block_inside_rule}
+use Rattle.affc_grammar.proofs.Rules.{ix_inside_rule, dims_rule, cond_rule, inside_rule, param_rule, param_more_rule, params_rule, name_more_rule, inside_symbols, inside_more_rule, pragma_rule, stmts_inside_rule, block_inside_rule}
 use Rattle.affc_grammar.proofs.Rule.{Rule, all_rule}
 use Rattle.affc_grammar.proofs.Tests.{first_symbol, hash_test}
 use Rattle.affc_grammar.specs.Limits.{count_open}
@@ -18,10 +18,10 @@ use Rattle.affc_lex.specs.declared.token.Kind.TheVariants.{Hash}
 use Rattle.affc_syntax.specs.Ahead.{past, number_value}
 use Rattle.affc_syntax.specs.Readers.{on_past, mapped}
 use Rattle.affc_syntax.specs.IxReading as ix
-use Rattle.affc_syntax.specs.CondReading.{conds}
-use Rattle.affc_syntax.proofs.Draws.{Draws, Placed, then_is, either_mapped, either_turned, past_one, failed, closed_is, all_is}
+use Rattle.affc_syntax.specs.CondReading.{whole}
+use Rattle.affc_syntax.proofs.Draws.{Draws, Placed, then_is, then_then, either_mapped, either_turned, past_one, failed, closed_is, all_is}
 use Rattle.affc_syntax.proofs.IxExact.{inside_is, dims_is}
-use Rattle.affc_syntax.proofs.CondExact.{conds_is}
+use Rattle.affc_syntax.proofs.CondExact.{cond_is}
 use Rattle.std.proofs.lemmas.List.{length-map}
 use Rattle.affc_grammar.specs.Grammar.{text_symbols}
 use Rattle.affc_grammar.proofs.Closed.{same_ok, same_at}
@@ -36,7 +36,7 @@ use Rattle.affc_text.specs.Answers.{IsRead}
 use Rattle.affc_text.specs.Parts.{Inside, no_inside, Function, Lines, no_lines}
 use Rattle.affc_text.specs.StmtReading.{named, ends_line, is_none, statement, stmts_inside, block_inside}
 use Rattle.affc_text.specs.TextReading.{extents, array, param, param_more, params, params_inside, temp, temp_more, more_temps, decl_behind, inside_stmt, inside_more, inner, function_inside, function, int, line_closed, range_behind, taken, context_behind, line_more, more_lines, ended, rest, lines_behind, include_behind, text}
-use Rattle.affc_text.proofs.StmtExact.{on_is, past_then, drawn_then, then_assoc, statement_is, stmts_inside_is, block_inside_is}
+use Rattle.affc_text.proofs.StmtExact.{on_is, past_then, drawn_then, then_assoc, ended_of, ended_after, statement_is, stmts_inside_is, block_inside_is}
 
 mapped_give : {A D E : Type 0} (x : Read Symbol A) (f : A → D) (c : D → E) → then_read (mapped f x) (λ a us. Ok (c a, us)) ≡ mapped (λ a. c (f a)) x
 mapped_give (Ok x) f c = refl
@@ -218,9 +218,9 @@ module _ (prelude : Bool) (end room p : ℕ) where
   unfolding after give
   inside_stmt_is first ds ss ts us c le e =
       let n = p + length (decls_symbols ds) + length (stmts_symbols ss) in
-      then_is (statement prelude end room (stmts_inside prelude end room) (block_inside prelude end room) first us) (r.read_stmt prelude room (r.stmts_inside prelude room) (r.block_inside prelude room) first us) (stmt_draft n) _ _ (inside_of p)
+      then_is (statement prelude end room (stmts_inside prelude end room) (block_inside prelude end room) first us) (r.read_stmt prelude room (r.stmts_inside prelude room) (r.block_inside prelude room) first us) (ended_of n) _ _ (inside_of p)
       (statement_is prelude end room (r.stmts_inside prelude room) (r.block_inside prelude room) (stmts_inside prelude end room) (block_inside prelude end room) (stmts_inside_rule prelude room) (block_inside_rule prelude room) (stmts_inside_is prelude end room) (block_inside_is prelude end room) n first ts us c le e)
-      (λ s vs q. refl)
+      (λ e vs q. (λ i. Ok (record { temps = decls_draft p ds; stmts = ended_after (p + length (decls_symbols ds)) ss e i }, vs)))
 
   -- a word before which no statement stands
   decl_or_stmt : (ds : DeclsText prelude) (w : Name) (b : Bool) (ts us : List Symbol) → past first_of ts ≡ Some (a_word w, us) → length ts ≤ end → end - length ts ≡ p + length (decls_symbols ds) + 0
@@ -365,15 +365,16 @@ module _ (end room p : ℕ) (ps : PragmasText) where
 
   -- behind the word `context`
   context_is : (ts : List Symbol) → length ts ≤ end → end - length ts ≡ p + length (pragmas_symbols ps) + 4
-      → context_behind end room (lines_of p ps) ts ≡ mapped (lines_of p) (after (r.read_conds true room) (λ cs. on line_end λ line. give (g.and_context ps cs line)) ts)
+      → context_behind end room (lines_of p ps) ts ≡ mapped (lines_of p) (after (r.read_cond true false room) (λ c. on line_end λ line. give (g.and_context ps c line)) ts)
   unfolding after
   context_is ts le e =
       let next = p + length (pragmas_symbols ps) in
       let word_at : end - length ts - 1 ≡ next + 3 = omega arith in
-      then_is (conds true end room ts) (r.read_conds true room ts) (conds_draft (end - length ts)) _ _ (lines_of p) (conds_is true end room ts le) (λ cs us q.
-      let same_part : taken ts us ≡ conds_symbols cs = taken_is (conds_symbols cs) ts us ((conds_rule true room).sound ts cs us q) in
-      line_closed_is (λ line. g.and_context ps cs line) (record { pragmas = pragmas_draft p ps ++ d.context (end - length ts - 1) (conds_draft (end - length ts) cs) ∷ []; calls = context_calls ps || has_call (taken ts us) }) (lines_of p) us
-      (λ line i. record { pragmas = pragmas_draft p ps ++ d.context (word_at i) (conds_draft (e i) cs) ∷ []; calls = context_calls ps || has_call (same_part i) }))
+      then_then (whole true false end room ts) (λ c us. Ok (comparisons_in c, us)) (λ cs us. line_closed (record { pragmas = pragmas_draft p ps ++ d.context (end - length ts - 1) cs ∷ []; calls = context_calls ps || has_call (taken ts us) }) us)
+      ∙ then_is (whole true false end room ts) (r.read_cond true false room ts) (cond_draft (end - length ts)) _ _ (lines_of p) (cond_is true false end room ts le) (λ c us q.
+      let same_part : taken ts us ≡ cond_symbols c = taken_is (cond_symbols c) ts us ((cond_rule true false room).sound ts c us q) in
+      line_closed_is (λ line. g.and_context ps c line) (record { pragmas = pragmas_draft p ps ++ d.context (end - length ts - 1) (comparisons_in (cond_draft (end - length ts) c)) ∷ []; calls = context_calls ps || has_call (taken ts us) }) (lines_of p) us
+      (λ line i. record { pragmas = pragmas_draft p ps ++ d.context (word_at i) (comparisons_in (cond_draft (e i) c)) ∷ []; calls = context_calls ps || has_call (same_part i) }))
 
 line_more_is : (end room p : ℕ) (k : Unit {0}) (left : PragmasText) (ts us : List Symbol) → past hash ts ≡ Some (k, us) → Placed end p (length (pragmas_symbols left)) ts → line_more end room k (lines_of p left) us ≡ mapped (lines_of p) (r.pragma_more room k left us)
 line_more_is end room p k left ts us c here =

@@ -3,17 +3,17 @@ use Rattle.std.proofs.Common.{◌≡◌, ℕ, zero, suc, ◌+◌, ◌-◌, Bool,
 use Rattle.affc_ast.specs.declared.tree.Role.{Role}
 use Rattle.affc_ast.specs.declared.tree.Role.TheVariants.{Input, Output, Temp}
 use Rattle.affc_grammar.specs.Grammar.{Symbol, Name, has_call}
-use Rattle.affc_grammar.specs.Draft.{WordDraft, word_draft, and_stmt, DeclDraft, ParamDraft, number_param, array_param, range, context}
+use Rattle.affc_grammar.specs.Draft.{WordDraft, word_draft, comparisons_in, DeclDraft, ParamDraft, number_param, array_param, range, context}
 use Rattle.affc_grammar.specs.Reader.{At}
 use Rattle.affc_grammar.specs.Reading.{this_mark, this_word, any_word, First}
-use Rattle.affc_syntax.specs.declared.draft.symbol.Symbol as code
 use Rattle.affc_syntax.specs.Ahead.{past, number_value}
 use Rattle.affc_syntax.specs.IxReading as ix
-use Rattle.affc_syntax.specs.CondReading.{conds}
+use Rattle.affc_syntax.specs.CondReading.{whole, comparisons}
+use Rattle.affc_syntax.specs.draft.Drafts.{stmts_after}
 use Rattle.affc_syntax.specs.Readers.{on_past}
 use Rattle.affc_syntax.proofs.Readers.{Left, Shrinks, left_give, left_fail, left_then, on_test, all_left, closed_left}
 use Rattle.affc_syntax.proofs.IxReads.{inside_left, dims_left}
-use Rattle.affc_syntax.proofs.CondReads.{conds_left}
+use Rattle.affc_syntax.proofs.CondReads.{whole_left}
 use Rattle.affc_text.specs.Calls.{begins_call}
 use Rattle.affc_text.specs.Parts.{Inside, Lines}
 use Rattle.affc_text.specs.StmtReading.{named, ends_line, statement, stmts_inside, block_inside}
@@ -59,7 +59,7 @@ module _ (prelude : Bool) (end room : ℕ) where
   inside_stmt_left first i us =
       left_then (statement prelude end room (stmts_inside prelude end room) (block_inside prelude end room) first us) _ (length us)
       (statement_left prelude end room (stmts_inside prelude end room) (block_inside prelude end room) (stmts_inside_left prelude end room) (block_inside_left prelude end room) first us)
-      (λ s vs. left_give (record { temps = i.temps; stmts = and_stmt i.stmts s }) vs (length vs) (omega arith))
+      (λ read vs. left_give (record { temps = i.temps; stmts = stmts_after i.stmts read }) vs (length vs) (omega arith))
 
   pub inside_more_left : (first : First) (i : Inside) → Shrinks (inside_more prelude end room first i)
   inside_more_left first i us = of_test (may_be_decl first i.stmts)
@@ -82,9 +82,12 @@ range_left end ls ts =
     left_then (int us) _ (length us) (int_left us) (λ low vs.
     left_then (int vs) _ (length vs) (int_left vs) (λ high. line_closed_left (record { pragmas = ls.pragmas ++ range w (end - length us) low high ∷ []; calls = ls.calls }))))
 
+comparisons_left : (end room : ℕ) → Shrinks (comparisons true end room)
+comparisons_left end room ts = left_then (whole true false end room ts) _ (length ts) (whole_left true false end room ts) (λ c us. left_give (comparisons_in c) us (length us) (omega arith))
+
 context_left : (end room : ℕ) (ls : Lines) → Shrinks (context_behind end room ls)
 context_left end room ls ts =
-    left_then (conds true end room ts) _ (length ts) (conds_left true end room ts) (λ cs us. line_closed_left (record { pragmas = ls.pragmas ++ context (end - length ts - 1) cs ∷ []; calls = ls.calls || has_call (taken ts us) }) us)
+    left_then (comparisons true end room ts) _ (length ts) (comparisons_left end room ts) (λ cs us. line_closed_left (record { pragmas = ls.pragmas ++ context (end - length ts - 1) cs ∷ []; calls = ls.calls || has_call (taken ts us) }) us)
 
 pub line_more_left : (end room : ℕ) (u : Unit {0}) (ls : Lines) → Shrinks (line_more end room u ls)
 line_more_left end room u ls ts =

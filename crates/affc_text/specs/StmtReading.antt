@@ -1,28 +1,29 @@
 -- Reading drafts of statements. Only the crate's private clauses cite it: `end` is the number behind the last token, so that the first of some tokens at
 -- the text's end has the number `end - length tokens`.
-use Rattle.std.specs.Prelude.{[], ◌∷◌, ◌++◌, ℕ, zero, suc, ◌-◌, Bool, true, false, ◌&&◌, List, length, codes, Option, Some, None, Ok, Err, if◌then◌else◌}
-use Rattle.std.specs.Option.{option_map}
+use Rattle.std.specs.Prelude.{[], ◌∷◌, ◌++◌, ℕ, zero, suc, ◌-◌, Bool, true, false, ◌&&◌, ◌||◌, List, length, codes, Option, Some, None, Ok, Err, if◌then◌else◌}
+use Rattle.std.specs.Option.{option_map, is_some}
 use Rattle.affc_lex.specs.Bytes.{same}
 use Rattle.affc_ast.specs.declared.tree.Op.{Op}
 use Rattle.affc_ast.specs.declared.tree.Rel.{Rel}
 use Rattle.affc_grammar.specs.Grammar.{Symbol, Name}
-use Rattle.affc_grammar.specs.Draft.{IxDraft, CompareDraft, LocalDraft, WordDraft, StmtsDraft, no_stmts, and_stmt, StmtDraft, assign, block, word_draft, bound_rel}
+use Rattle.affc_grammar.specs.Draft.{IxDraft, CondDraft, LocalDraft, WordDraft, StmtsDraft, no_stmts, and_stmt, StmtDraft, if_cond, assign, block, word_draft, bound_rel}
 use Rattle.affc_grammar.specs.Reader.{At, Deep, Reader, then_read, Turn, going, done}
 use Rattle.affc_grammar.specs.Reading.{this_mark, this_word, any_word, line_end, one, bound_of, assign_of, choose, head_words, First, a_word, a_brace, first_of}
+use Rattle.affc_syntax.specs.draft.Drafts.{stmts_after}
 use Rattle.affc_syntax.specs.Ahead.{past}
 use Rattle.affc_syntax.specs.Readers.{on_past, closed, all_more}
 use Rattle.affc_syntax.specs.IxReading as ix
-use Rattle.affc_syntax.specs.CondReading.{conds}
+use Rattle.affc_syntax.specs.CondReading as condition
 use Rattle.affc_syntax.specs.ValueReading.{value}
-use Rattle.affc_text.specs.Parts.{Head, for_head, if_head, Heads, Block, no_items, under, and_one, whole}
+use Rattle.affc_text.specs.Parts.{Head, for_head, if_head, else_head, Heads, Closing, closed as closed_stmt, waiting, Block, no_items, covered, listed, close, under_one}
 
 abbrev pub expression : (prelude : Bool) (end room : ℕ) → Reader Symbol IxDraft
 expression prelude end room = ix.expression prelude end (ix.inside prelude end room)
 
 -- behind a bracket that was opened where so many could be
-unfoldable pub conds_inside : (prelude : Bool) (end : ℕ) → (room : ℕ) → Reader Symbol (List CompareDraft)
-conds_inside prelude end zero ts = Err Deep
-conds_inside prelude end (suc room) ts = conds prelude end room ts
+unfoldable pub cond_inside : (prelude : Bool) (end : ℕ) → (room : ℕ) → Reader Symbol CondDraft
+cond_inside prelude end zero ts = Err Deep
+cond_inside prelude end (suc room) ts = condition.whole prelude true end room ts
 
 -- ---- Single tokens
 
@@ -83,7 +84,7 @@ for_behind prelude end room at ts =
 
 -- behind `if (`
 abbrev pub if_behind : (prelude : Bool) (end room at : ℕ) → Reader Symbol Head
-if_behind prelude end room at ts = then_read (conds_inside prelude end room ts) (λ cs us. closed (codes ")") (if_head at cs) us)
+if_behind prelude end room at ts = then_read (cond_inside prelude end room ts) (λ c us. closed (codes ")") (if_head at c) us)
 
 abbrev pub head_behind : (prelude : Bool) (end room at : ℕ) (is_for : Bool) → Reader Symbol Head
 head_behind prelude end room at true ts = for_behind prelude end room at ts
@@ -98,19 +99,36 @@ assigned prelude end room at w ts =
     then_read (assignment us) (λ op vs.
     then_read (value prelude end room vs) (λ v ws. closed (codes ";") (assign (word_draft at w) subs op v) ws)))
 
-abbrev pub assigned_under : (prelude : Bool) (end room : ℕ) → Option Heads → (at : ℕ) → Name → Reader Symbol (Turn Heads StmtDraft)
-assigned_under prelude end room hs at w ts = then_read (assigned prelude end room at w ts) (λ s us. Ok (done (whole hs s), us))
+-- whether a word before these tokens is the first of an assignment
+abbrev pub is_assigned : List Symbol → Bool
+is_assigned [] = false
+is_assigned (x ∷ ts) = is_some (this_mark (codes "[") x) || is_some (assign_of x)
 
-abbrev pub worded : (prelude : Bool) (end room : ℕ) → Option Heads → (at : ℕ) → Name → Option Bool → Reader Symbol (Turn Heads StmtDraft)
+-- behind `else` after an `if` without one: it is the first of an assignment, or that of the `if`
+abbrev pub else_behind : (prelude : Bool) (end room : ℕ) → List Head → (at : ℕ) → CondDraft → StmtsDraft → Reader Symbol (Turn Heads (List StmtDraft))
+else_behind prelude end room hs at c body ts =
+    if is_assigned ts
+    then then_read (assigned prelude end room (end - length ts - 1) (codes "else") ts) (λ t us. Ok (done (covered hs (if_cond at c body no_stmts) ∷ t ∷ []), us))
+    else Ok (going (record { outer = hs; inner = else_head at c body }), ts)
+
+-- behind what a body under heads makes
+abbrev pub closed_behind : (prelude : Bool) (end room : ℕ) → Closing → Reader Symbol (Turn Heads (List StmtDraft))
+closed_behind prelude end room (closed_stmt s) ts = Ok (done (s ∷ []), ts)
+closed_behind prelude end room (waiting hs at c body) ts = on_past (past (this_word (codes "else")) ts) (λ _ us. else_behind prelude end room hs at c body us) (Ok (done (covered hs (if_cond at c body no_stmts) ∷ []), ts))
+
+abbrev pub assigned_under : (prelude : Bool) (end room : ℕ) → List Head → (at : ℕ) → Name → Reader Symbol (Turn Heads (List StmtDraft))
+assigned_under prelude end room hs at w ts = then_read (assigned prelude end room at w ts) (λ s us. closed_behind prelude end room (close hs s) us)
+
+abbrev pub worded : (prelude : Bool) (end room : ℕ) → List Head → (at : ℕ) → Name → Option Bool → Reader Symbol (Turn Heads (List StmtDraft))
 worded prelude end room hs at w None ts = assigned_under prelude end room hs at w ts
 worded prelude end room hs at w (Some is_for) ts =
-    on_past (past (this_mark (codes "(")) ts) (λ _ us. then_read (head_behind prelude end room at is_for us) (λ h vs. Ok (going (and_one hs h), vs)))
+    on_past (past (this_mark (codes "(")) ts) (λ _ us. then_read (head_behind prelude end room at is_for us) (λ h vs. Ok (going (record { outer = hs; inner = h }), vs)))
     (assigned_under prelude end room hs at w ts)
 
 -- the first token of a body behind heads
-abbrev pub body_turn : (prelude : Bool) (end room : ℕ) → Reader Symbol StmtsDraft → First → Heads → Reader Symbol (Turn Heads StmtDraft)
-body_turn prelude end room body (a_word w) hs us = worded prelude end room (Some hs) (end - length us - 1) w (choose head_words w) us
-body_turn prelude end room body a_brace hs us = then_read (body us) (λ ss vs. Ok (done (under hs ss), vs))
+abbrev pub body_turn : (prelude : Bool) (end room : ℕ) → Reader Symbol StmtsDraft → First → Heads → Reader Symbol (Turn Heads (List StmtDraft))
+body_turn prelude end room body (a_word w) hs us = worded prelude end room (listed hs) (end - length us - 1) w (choose head_words w) us
+body_turn prelude end room body a_brace hs us = then_read (body us) (λ ss vs. closed_behind prelude end room (under_one hs.outer hs.inner ss) vs)
 
 abbrev pub going_on : {A C : Type 0} → (A → Reader Symbol C) → Turn A C → Reader Symbol C
 going_on again (going a) us = again a us
@@ -123,19 +141,19 @@ tries_more test turn (suc n) left ts = on_past (past test ts) (λ k us. then_rea
 unfoldable pub until_done : {A C K : Type 0} → (Symbol → Option K) → (K → A → Reader Symbol (Turn A C)) → A → Reader Symbol C
 until_done test turn left ts = tries_more test turn (length ts) left ts
 
-abbrev pub under_heads : (prelude : Bool) (end room : ℕ) → Reader Symbol StmtsDraft → Heads → Reader Symbol StmtDraft
+abbrev pub under_heads : (prelude : Bool) (end room : ℕ) → Reader Symbol StmtsDraft → Heads → Reader Symbol (List StmtDraft)
 under_heads prelude end room body = until_done first_of (body_turn prelude end room body)
 
-abbrev pub simple : (prelude : Bool) (end room : ℕ) → Reader Symbol StmtsDraft → (at : ℕ) → Name → Reader Symbol StmtDraft
-simple prelude end room body at w ts = then_read (worded prelude end room None at w (choose head_words w) ts) (going_on (under_heads prelude end room body))
+abbrev pub simple : (prelude : Bool) (end room : ℕ) → Reader Symbol StmtsDraft → (at : ℕ) → Name → Reader Symbol (List StmtDraft)
+simple prelude end room body at w ts = then_read (worded prelude end room [] at w (choose head_words w) ts) (going_on (under_heads prelude end room body))
 
--- behind the first token of a statement
-abbrev pub statement : (prelude : Bool) (end room : ℕ) → Reader Symbol StmtsDraft → Reader Symbol StmtDraft → First → Reader Symbol StmtDraft
+-- behind the first token of a statement: that statement, and where it is an open one, an assignment to an array `else` behind it
+abbrev pub statement : (prelude : Bool) (end room : ℕ) → Reader Symbol StmtsDraft → Reader Symbol StmtDraft → First → Reader Symbol (List StmtDraft)
 statement prelude end room body inner (a_word w) us = simple prelude end room body (end - length us - 1) w us
-statement prelude end room body inner a_brace us = inner us
+statement prelude end room body inner a_brace us = then_read (inner us) (λ s vs. Ok (s ∷ [], vs))
 
 abbrev pub stmt_more : (prelude : Bool) (end room : ℕ) → Reader Symbol StmtsDraft → Reader Symbol StmtDraft → First → StmtsDraft → Reader Symbol StmtsDraft
-stmt_more prelude end room body inner first ss us = then_read (statement prelude end room body inner first us) (λ s vs. Ok (and_stmt ss s, vs))
+stmt_more prelude end room body inner first ss us = then_read (statement prelude end room body inner first us) (λ read vs. Ok (stmts_after ss read, vs))
 
 abbrev pub is_none : StmtsDraft → Bool
 is_none no_stmts = true
@@ -154,7 +172,7 @@ abbrev pub local_behind : (end room : ℕ) → Block → Reader Symbol Block
 local_behind end room b ts = then_read (local end room ts) (λ l us. Ok (record { locals = b.locals ++ l ∷ []; stmts = b.stmts }, us))
 
 abbrev pub block_stmt : (prelude : Bool) (end room : ℕ) → Reader Symbol StmtsDraft → Reader Symbol StmtDraft → First → Block → Reader Symbol Block
-block_stmt prelude end room body inner first b us = then_read (statement prelude end room body inner first us) (λ s vs. Ok (record { locals = b.locals; stmts = and_stmt b.stmts s }, vs))
+block_stmt prelude end room body inner first b us = then_read (statement prelude end room body inner first us) (λ read vs. Ok (record { locals = b.locals; stmts = stmts_after b.stmts read }, vs))
 
 -- whether the token begins a local where `int64_t` follows
 abbrev pub may_be_local : (prelude : Bool) → First → StmtsDraft → Bool

@@ -4,13 +4,14 @@ use Rattle.std.specs.Prelude.{[], ◌∷◌, ◌++◌, ℕ, zero, suc, ◌-◌, 
 use Rattle.affc_ast.specs.declared.tree.Role.{Role}
 use Rattle.affc_ast.specs.declared.tree.Role.TheVariants.{Input, Output, Temp}
 use Rattle.affc_grammar.specs.Grammar.{Symbol, Name, has_call}
-use Rattle.affc_grammar.specs.Draft.{IxDraft, WordDraft, word_draft, StmtsDraft, and_stmt, DeclDraft, ParamDraft, number_param, array_param, range, context, TextDraft}
+use Rattle.affc_grammar.specs.Draft.{IxDraft, WordDraft, word_draft, StmtsDraft, DeclDraft, ParamDraft, number_param, array_param, range, context, TextDraft}
 use Rattle.affc_grammar.specs.Reader.{At, Deep, Reader, then_read}
 use Rattle.affc_grammar.specs.Reading.{this_mark, this_word, any_word, hash, header, the_prelude, First, first_of}
 use Rattle.affc_syntax.specs.Ahead.{past, number_value}
 use Rattle.affc_syntax.specs.Readers.{on_past, closed, all_more}
 use Rattle.affc_syntax.specs.IxReading as ix
-use Rattle.affc_syntax.specs.CondReading.{conds}
+use Rattle.affc_syntax.specs.draft.Drafts.{stmts_after}
+use Rattle.affc_syntax.specs.CondReading.{comparisons}
 use Rattle.affc_text.specs.Parts.{Inside, no_inside, Function, Lines, no_lines}
 use Rattle.affc_text.specs.StmtReading.{named, ends_line, is_none, is_first_word, statement, stmts_inside, block_inside}
 
@@ -71,7 +72,7 @@ decl_behind prelude end room i w us =
 
 abbrev pub inside_stmt : (prelude : Bool) (end room : ℕ) → First → Inside → Reader Symbol Inside
 inside_stmt prelude end room first i us =
-    then_read (statement prelude end room (stmts_inside prelude end room) (block_inside prelude end room) first us) (λ s vs. Ok (record { temps = i.temps; stmts = and_stmt i.stmts s }, vs))
+    then_read (statement prelude end room (stmts_inside prelude end room) (block_inside prelude end room) first us) (λ read vs. Ok (record { temps = i.temps; stmts = stmts_after i.stmts read }, vs))
 
 -- whether the token begins a declaration where a Word follows
 abbrev pub may_be_decl : First → StmtsDraft → Bool
@@ -135,7 +136,7 @@ taken ts left = take (length ts - length left) ts
 -- behind the word `context`
 abbrev pub context_behind : (end room : ℕ) → Lines → Reader Symbol Lines
 context_behind end room ls ts =
-    then_read (conds true end room ts) (λ cs us. line_closed (record { pragmas = ls.pragmas ++ context (end - length ts - 1) cs ∷ []; calls = ls.calls || has_call (taken ts us) }) us)
+    then_read (comparisons true end room ts) (λ cs us. line_closed (record { pragmas = ls.pragmas ++ context (end - length ts - 1) cs ∷ []; calls = ls.calls || has_call (taken ts us) }) us)
 
 -- behind a "#"
 abbrev pub line_more : (end room : ℕ) → Unit {0} → Lines → Reader Symbol Lines

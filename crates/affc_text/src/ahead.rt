@@ -1,6 +1,6 @@
 //! What stands first among tokens, of what only statements, the function and the lines before it have.
 
-ghost use Rattle.std.specs.Prelude.{◌≡◌, ◌-◌, drop, length, map, None, Some, MatchOption, MatchResult, is_some};
+ghost use Rattle.std.specs.Prelude.{◌≡◌, ◌-◌, codes, drop, length, map, None, Some, MatchOption, MatchResult, is_some};
 ghost use Rattle.affc_lex.specs.Bytes as bytes;
 ghost use Rattle.affc_grammar.specs.Draft as d;
 ghost use Rattle.affc_grammar.specs.Reading as tests;
@@ -210,6 +210,12 @@ fn assigning(symbol: &Symbol<'_>) -> Option<Option<Op>>
     }
 }
 
+fn is_bracket(symbol: &Symbol<'_>) -> bool
+    ensures { result ≡ is_some (tests.this_mark (codes "[") (seen symbol.now)) }
+{
+    is_mark_kind(symbol.kind) && same(b"[", symbol.text)
+}
+
 /// How the mark that has to stand here assigns.
 pub(crate) fn assignment(symbols: &[Symbol<'_>], at: usize) -> Answer<Option<Op>>
     ensures { Gives (map seen symbols.now) reading.op_itself result (reading.assignment (drop at (map seen symbols.now))) }
@@ -220,6 +226,16 @@ pub(crate) fn assignment(symbols: &[Symbol<'_>], at: usize) -> Answer<Option<Op>
             None => Err(Stop::At(at)),
         },
         None => Err(Stop::At(at)),
+    }
+}
+
+/// Whether a word that stands before here is the first of an assignment.
+pub(crate) fn is_assigned(symbols: &[Symbol<'_>], at: usize) -> bool
+    ensures { result ≡ reading.is_assigned (drop at (map seen symbols.now)) }
+{
+    match first(symbols, at) {
+        Some(symbol) => is_bracket(symbol) || assigning(symbol).is_some(),
+        None => false,
     }
 }
 

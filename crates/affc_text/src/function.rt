@@ -258,9 +258,9 @@ fn inside_stmt(
 ) -> Answer<Inside>
     ensures { Gives (map seen symbols.now) inside_seen result (reading.inside_stmt prelude (length symbols.now) room (first_seen first.entry) (inside_seen inside) (drop next (map seen symbols.now))) }
 {
-    let (s, next) = statement(alloc, prelude, room, first, symbols, next)?;
+    let (read, next) = statement(alloc, prelude, room, first, symbols, next)?;
     let Inside { temps, mut stmts } = inside;
-    stmts.push(s)?;
+    stmts.append(read)?;
     Ok((Inside { temps, stmts }, next))
 }
 

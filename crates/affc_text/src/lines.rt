@@ -18,7 +18,7 @@ use affc_syntax::ahead::{
 use affc_syntax::draft::draft::PragmaDraft;
 use affc_syntax::draft::symbol::{Symbol, is, is_mark_kind, is_word_kind};
 use affc_syntax::expression::number_of_first;
-use affc_syntax::here::conditions_here;
+use affc_syntax::here::comparisons_here;
 use std::alloc::Global;
 
 /// The lines that were read, and whether a context among them has a call.
@@ -107,7 +107,7 @@ fn context_behind(
     ensures { Gives (map seen symbols.now) lines_seen result (reading.context_behind (length symbols.now) room (lines_seen lines) (drop next (map seen symbols.now))) }
 {
     let at = number_before(symbols, next);
-    let (conds, rest) = conditions_here(alloc, true, room, symbols, next)?;
+    let (conds, rest) = comparisons_here(alloc, true, room, symbols, next)?;
     let end = behind_line(symbols, rest)?;
     let Lines { mut pragmas, calls } = lines;
     pragmas.push(PragmaDraft::Context { at, conds })?;

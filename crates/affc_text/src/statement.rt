@@ -1,29 +1,26 @@
 //! Reading statements. `room` is how many brackets may still be opened, `next` is the number of the next token.
 
-ghost use Rattle.std.specs.Prelude.{◌≡◌, ◌++◌, ◌∷◌, [], drop, length, map, IfOk};
-ghost use Rattle.std.specs.Option.{option_map};
-ghost use Rattle.affc_syntax.specs.draft.Drafts.{compare, ix, local as local_seen, stmt, word};
+ghost use Rattle.std.specs.Prelude.{◌≡◌, ◌∷◌, [], drop, length, map, IfOk};
+ghost use Rattle.affc_syntax.specs.draft.Drafts.{cond as cond_seen, ix, local as local_seen, stmt, word};
 ghost use Rattle.affc_syntax.specs.draft.Symbols.{seen};
 ghost use Rattle.affc_grammar.specs.Draft as d;
 ghost use Rattle.affc_grammar.specs.Reading as grammar;
 ghost use Rattle.affc_syntax.specs.Readers.{Gives};
 ghost use Rattle.affc_text.specs.Parts as parts;
-ghost use Rattle.affc_text.specs.Parts.{first_seen, head_seen, heads_seen, turn_seen, block_seen};
+ghost use Rattle.affc_text.specs.Parts.{first_seen, head_seen, heads_seen, turn_seen, closing_seen, block_seen};
 ghost use Rattle.affc_text.specs.StmtReading as reading;
 
 use crate::ahead::{
-    First, assignment, behind_one, compared, head_word, is_first_word, named, number_before,
-    past_first,
+    First, assignment, behind_one, compared, head_word, is_assigned, is_first_word, named,
+    number_before, past_first,
 };
 use affc_ast::Items;
 use affc_syntax::ahead::{
     Answer, Stop, behind, behind_word, drafted_word, past_mark, past_this_word,
 };
-use affc_syntax::draft::draft::{
-    CompareDraft, HeadDraft, IxDraft, LocalDraft, StmtDraft, WordDraft,
-};
+use affc_syntax::draft::draft::{CondDraft, HeadDraft, IxDraft, LocalDraft, StmtDraft, WordDraft};
 use affc_syntax::draft::symbol::Symbol;
-use affc_syntax::here::{conditions_here, dims_here, expression_here, inside_here, value_here};
+use affc_syntax::here::{condition_here, dims_here, expression_here, inside_here, value_here};
 use std::alloc::{AllocError, Global};
 
 /// What stands before a body.
@@ -32,7 +29,13 @@ pub(crate) enum Head {
     For(HeadDraft),
     If {
         at: usize,
-        conds: Items<CompareDraft>,
+        cond: CondDraft,
+    },
+    /// An `if` with its body and the `else`.
+    Else {
+        at: usize,
+        cond: CondDraft,
+        body: Items<StmtDraft>,
     },
 }
 
@@ -43,11 +46,24 @@ pub(crate) struct Heads {
     inner: Head,
 }
 
-/// Heads whose body is still to be read, or the whole statement.
+/// Heads whose body is still to be read, or the one or two statements that were read.
 #[derive(Drop)]
 pub(crate) enum Turn {
     Going(Heads),
-    Done(StmtDraft),
+    Done(Items<StmtDraft>),
+}
+
+/// What a body under heads makes.
+#[derive(Drop)]
+pub(crate) enum Closing {
+    Closed(StmtDraft),
+    /// The nearest `if` without `else`, and the heads before it.
+    Waiting {
+        heads: Items<Head>,
+        at: usize,
+        cond: CondDraft,
+        body: Items<StmtDraft>,
+    },
 }
 
 /// What was read of a block.
@@ -57,21 +73,21 @@ pub(crate) struct Block {
     stmts: Items<StmtDraft>,
 }
 
-/// Behind the `(` of conditions.
-#[tactic(auto, unfolding(crate::specs::StmtReading::conds_inside))]
-fn conds_inside(
+/// Behind the `(` of a condition.
+#[tactic(auto, unfolding(crate::specs::StmtReading::cond_inside))]
+fn cond_inside(
     alloc: Global,
     prelude: bool,
     room: u32,
     symbols: &[Symbol<'_>],
     next: usize,
-) -> Answer<Items<CompareDraft>>
-    ensures { Gives (map seen symbols.now) (map compare) result (reading.conds_inside prelude (length symbols.now) room (drop next (map seen symbols.now))) }
+) -> Answer<CondDraft>
+    ensures { Gives (map seen symbols.now) cond_seen result (reading.cond_inside prelude (length symbols.now) room (drop next (map seen symbols.now))) }
 {
     if room == 0 {
         return Err(Stop::Deep);
     }
-    conditions_here(alloc, prelude, room - 1, symbols, next)
+    condition_here(alloc, prelude, room - 1, symbols, next)
 }
 
 // ---- Heads
@@ -171,9 +187,9 @@ fn if_behind(
 ) -> Answer<Head>
     ensures { Gives (map seen symbols.now) head_seen result (reading.if_behind prelude (length symbols.now) room at (drop next (map seen symbols.now))) }
 {
-    let (conds, next) = conds_inside(alloc, prelude, room, symbols, next)?;
+    let (cond, next) = cond_inside(alloc, prelude, room, symbols, next)?;
     let next = behind(b")", symbols, next)?;
-    Ok((Head::If { at, conds }, next))
+    Ok((Head::If { at, cond }, next))
 }
 
 fn head_behind(
@@ -194,38 +210,47 @@ fn head_behind(
     }
 }
 
+/// All the heads, in one list.
 #[tactic(auto, using(crate::proofs::StmtReads::parts))]
-fn and_one(alloc: Global, heads: Option<Heads>, h: Head) -> Result<Heads, AllocError>
-    ensures { IfOk result (λ hs. heads_seen hs ≡ parts.and_one (option_map heads_seen heads) (head_seen h)) }
+fn listed(heads: Heads) -> Result<Items<Head>, AllocError>
+    ensures { IfOk result (λ hs. map head_seen hs ≡ parts.listed (heads_seen heads)) }
 {
-    match heads {
-        None => Ok(Heads {
-            outer: Items::new(alloc),
-            inner: h,
-        }),
-        Some(heads) => {
-            let Heads { mut outer, inner } = heads;
-            outer.push(inner)?;
-            Ok(Heads { outer, inner: h })
-        }
-    }
+    let Heads { mut outer, inner } = heads;
+    outer.push(inner)?;
+    Ok(outer)
 }
 
 // ---- A body under heads
 
 #[tactic(auto, using(affc_syntax::proofs::draft::Outs::stmt_made))]
-fn with_head(h: Head, body: Items<StmtDraft>) -> StmtDraft
+fn with_head(alloc: Global, h: Head, body: Items<StmtDraft>) -> StmtDraft
     ensures { stmt result ≡ parts.with_head (head_seen h) (parts.stmts body) }
 {
     match h {
         Head::For(head) => StmtDraft::For { head, body },
-        Head::If { at, conds } => StmtDraft::If { at, conds, body },
+        Head::If { at, cond } => StmtDraft::If {
+            at,
+            cond,
+            body,
+            other: Items::new(alloc),
+        },
+        Head::Else {
+            at,
+            cond,
+            body: first,
+        } => StmtDraft::If {
+            at,
+            cond,
+            body: first,
+            other: body,
+        },
     }
 }
 
 #[tactic(auto, using(crate::proofs::StmtReads::parts))]
 fn alone(alloc: Global, s: StmtDraft) -> Result<Items<StmtDraft>, AllocError>
-    ensures { IfOk result (λ xs. parts.stmts xs ≡ d.and_stmt d.no_stmts (stmt s)) }
+    ensures stmts { IfOk result (λ xs. parts.stmts xs ≡ d.and_stmt d.no_stmts (stmt s)) }
+    ensures list { IfOk result (λ xs. map stmt xs ≡ stmt s ∷ []) }
 {
     let mut items = Items::new(alloc);
     items.push(s)?;
@@ -240,29 +265,84 @@ fn covered(alloc: Global, heads: Items<Head>, s: StmtDraft) -> Result<StmtDraft,
     let mut s = s;
     while let Some(h) = heads.pop() {
         let body = alone(alloc, s)?;
-        s = with_head(h, body);
+        s = with_head(alloc, h, body);
     }
     Ok(s)
 }
 
-fn under(alloc: Global, heads: Heads, body: Items<StmtDraft>) -> Result<StmtDraft, AllocError>
-    ensures { IfOk result (λ t. stmt t ≡ parts.under (heads_seen heads) (parts.stmts body)) }
+/// The body under the last of the heads: a statement that an `else` could go on with, where the head is an `if`.
+fn under_one(
+    alloc: Global,
+    heads: Items<Head>,
+    h: Head,
+    body: Items<StmtDraft>,
+) -> Result<Closing, AllocError>
+    ensures { IfOk result (λ k. closing_seen k ≡ parts.under_one (map head_seen heads) (head_seen h) (parts.stmts body)) }
 {
-    let Heads { outer, inner } = heads;
-    let s = with_head(inner, body);
-    covered(alloc, outer, s)
+    match h {
+        Head::If { at, cond } => Ok(Closing::Waiting {
+            heads,
+            at,
+            cond,
+            body,
+        }),
+        Head::For(head) => close(alloc, heads, with_head(alloc, Head::For(head), body)),
+        Head::Else {
+            at,
+            cond,
+            body: first,
+        } => close(
+            alloc,
+            heads,
+            with_head(
+                alloc,
+                Head::Else {
+                    at,
+                    cond,
+                    body: first,
+                },
+                body,
+            ),
+        ),
+    }
 }
 
-fn whole(alloc: Global, heads: Option<Heads>, s: StmtDraft) -> Result<StmtDraft, AllocError>
-    ensures { IfOk result (λ t. stmt t ≡ parts.whole (option_map heads_seen heads) (stmt s)) }
+/// The heads, from the last, over a statement that no `else` could go on with, up to the nearest `if` without `else`.
+fn close(alloc: Global, heads: Items<Head>, s: StmtDraft) -> Result<Closing, AllocError>
+    ensures { IfOk result (λ k. closing_seen k ≡ parts.close (map head_seen heads) (stmt s)) }
 {
-    match heads {
-        None => Ok(s),
-        Some(heads) => {
-            let body = alone(alloc, s)?;
-            under(alloc, heads, body)
+    let mut heads = heads;
+    let mut s = s;
+    while let Some(h) = heads.pop() {
+        let body = alone(alloc, s)?;
+        match h {
+            Head::If { at, cond } => {
+                return Ok(Closing::Waiting {
+                    heads,
+                    at,
+                    cond,
+                    body,
+                });
+            }
+            Head::For(head) => s = with_head(alloc, Head::For(head), body),
+            Head::Else {
+                at,
+                cond,
+                body: first,
+            } => {
+                s = with_head(
+                    alloc,
+                    Head::Else {
+                        at,
+                        cond,
+                        body: first,
+                    },
+                    body,
+                );
+            }
         }
     }
+    Ok(Closing::Closed(s))
 }
 
 // ---- Statements
@@ -295,21 +375,90 @@ fn assigned(
     ))
 }
 
+/// Behind `else` after an `if` without one: it is the first of an assignment, or that of the `if`.
+#[tactic(auto, using(crate::proofs::StmtReads::parts))]
+fn else_behind(
+    alloc: Global,
+    prelude: bool,
+    room: u32,
+    heads: Items<Head>,
+    at: usize,
+    cond: CondDraft,
+    body: Items<StmtDraft>,
+    symbols: &[Symbol<'_>],
+    next: usize,
+) -> Answer<Turn>
+    ensures { Gives (map seen symbols.now) turn_seen result (reading.else_behind prelude (length symbols.now) room (map head_seen heads) at (cond_seen cond) (parts.stmts body) (drop next (map seen symbols.now))) }
+{
+    if !is_assigned(symbols, next) {
+        let inner = Head::Else { at, cond, body };
+        return Ok((
+            Turn::Going(Heads {
+                outer: heads,
+                inner,
+            }),
+            next,
+        ));
+    }
+    let word = number_before(symbols, next);
+    let (second, next) = assigned(alloc, prelude, room, word, "else", symbols, next)?;
+    let s = with_head(alloc, Head::If { at, cond }, body);
+    let first = covered(alloc, heads, s)?;
+    let mut both = alone(alloc, first)?;
+    both.push(second)?;
+    Ok((Turn::Done(both), next))
+}
+
+/// Behind what a body under heads makes.
+fn closed_behind(
+    alloc: Global,
+    prelude: bool,
+    room: u32,
+    k: Closing,
+    symbols: &[Symbol<'_>],
+    next: usize,
+) -> Answer<Turn>
+    ensures { Gives (map seen symbols.now) turn_seen result (reading.closed_behind prelude (length symbols.now) room (closing_seen k) (drop next (map seen symbols.now))) }
+{
+    match k {
+        Closing::Closed(s) => {
+            let whole = alone(alloc, s)?;
+            Ok((Turn::Done(whole), next))
+        }
+        Closing::Waiting {
+            heads,
+            at,
+            cond,
+            body,
+        } => match past_this_word(b"else", symbols, next) {
+            Some(behind) => else_behind(
+                alloc, prelude, room, heads, at, cond, body, symbols, behind,
+            ),
+            None => {
+                let s = with_head(alloc, Head::If { at, cond }, body);
+                let s = covered(alloc, heads, s)?;
+                let whole = alone(alloc, s)?;
+                Ok((Turn::Done(whole), next))
+            }
+        },
+    }
+}
+
 fn assigned_under(
     alloc: Global,
     prelude: bool,
     room: u32,
-    heads: Option<Heads>,
+    heads: Items<Head>,
     at: usize,
     name: &str,
     symbols: &[Symbol<'_>],
     next: usize,
 ) -> Answer<Turn>
-    ensures { Gives (map seen symbols.now) turn_seen result (reading.assigned_under prelude (length symbols.now) room (option_map heads_seen heads) at name.now (drop next (map seen symbols.now))) }
+    ensures { Gives (map seen symbols.now) turn_seen result (reading.assigned_under prelude (length symbols.now) room (map head_seen heads) at name.now (drop next (map seen symbols.now))) }
 {
     let (s, next) = assigned(alloc, prelude, room, at, name, symbols, next)?;
-    let s = whole(alloc, heads, s)?;
-    Ok((Turn::Done(s), next))
+    let k = close(alloc, heads, s)?;
+    closed_behind(alloc, prelude, room, k, symbols, next)
 }
 
 /// Behind a Word, which is a head's where a `(` follows; else it is the first of an assignment.
@@ -317,21 +466,26 @@ fn worded(
     alloc: Global,
     prelude: bool,
     room: u32,
-    heads: Option<Heads>,
+    heads: Items<Head>,
     at: usize,
     name: &str,
     symbols: &[Symbol<'_>],
     next: usize,
 ) -> Answer<Turn>
-    ensures { Gives (map seen symbols.now) turn_seen result (reading.worded prelude (length symbols.now) room (option_map heads_seen heads) at name.now (grammar.choose grammar.head_words name.now) (drop next (map seen symbols.now))) }
+    ensures { Gives (map seen symbols.now) turn_seen result (reading.worded prelude (length symbols.now) room (map head_seen heads) at name.now (grammar.choose grammar.head_words name.now) (drop next (map seen symbols.now))) }
 {
     match head_word(name) {
         None => assigned_under(alloc, prelude, room, heads, at, name, symbols, next),
         Some(is_for) => match past_mark(b"(", symbols, next) {
             Some(next) => {
                 let (h, next) = head_behind(alloc, prelude, room, at, is_for, symbols, next)?;
-                let heads = and_one(alloc, heads, h)?;
-                Ok((Turn::Going(heads), next))
+                Ok((
+                    Turn::Going(Heads {
+                        outer: heads,
+                        inner: h,
+                    }),
+                    next,
+                ))
             }
             None => assigned_under(alloc, prelude, room, heads, at, name, symbols, next),
         },
@@ -354,12 +508,14 @@ fn body_turn(
     match first {
         First::Word(name) => {
             let at = number_before(symbols, next);
-            worded(alloc, prelude, room, Some(heads), at, name, symbols, next)
+            let heads = listed(heads)?;
+            worded(alloc, prelude, room, heads, at, name, symbols, next)
         }
         First::Brace => {
             let (body, next) = stmts_inside(alloc, prelude, room, symbols, next)?;
-            let s = under(alloc, heads, body)?;
-            Ok((Turn::Done(s), next))
+            let Heads { outer, inner } = heads;
+            let k = under_one(alloc, outer, inner, body)?;
+            closed_behind(alloc, prelude, room, k, symbols, next)
         }
     }
 }
@@ -373,8 +529,8 @@ fn under_heads(
     heads: Heads,
     symbols: &[Symbol<'_>],
     next: usize,
-) -> Answer<StmtDraft>
-    ensures { Gives (map seen symbols.now) stmt result (reading.under_heads prelude (length symbols.now) room (reading.stmts_inside prelude (length symbols.now) room) (heads_seen heads) (drop next (map seen symbols.now))) }
+) -> Answer<Items<StmtDraft>>
+    ensures { Gives (map seen symbols.now) (map stmt) result (reading.under_heads prelude (length symbols.now) room (reading.stmts_inside prelude (length symbols.now) room) (heads_seen heads) (drop next (map seen symbols.now))) }
 {
     let mut heads = heads;
     let mut next = next;
@@ -385,7 +541,7 @@ fn under_heads(
                 heads = longer;
                 next = rest;
             }
-            Turn::Done(s) => return Ok((s, rest)),
+            Turn::Done(read) => return Ok((read, rest)),
         }
     }
     Err(Stop::At(next))
@@ -401,17 +557,18 @@ fn simple(
     name: &str,
     symbols: &[Symbol<'_>],
     next: usize,
-) -> Answer<StmtDraft>
-    ensures { Gives (map seen symbols.now) stmt result (reading.simple prelude (length symbols.now) room (reading.stmts_inside prelude (length symbols.now) room) at name.now (drop next (map seen symbols.now))) }
+) -> Answer<Items<StmtDraft>>
+    ensures { Gives (map seen symbols.now) (map stmt) result (reading.simple prelude (length symbols.now) room (reading.stmts_inside prelude (length symbols.now) room) at name.now (drop next (map seen symbols.now))) }
 {
-    let (turn, next) = worded(alloc, prelude, room, None, at, name, symbols, next)?;
+    let none = Items::new(alloc);
+    let (turn, next) = worded(alloc, prelude, room, none, at, name, symbols, next)?;
     match turn {
         Turn::Going(heads) => under_heads(alloc, prelude, room, heads, symbols, next),
-        Turn::Done(s) => Ok((s, next)),
+        Turn::Done(read) => Ok((read, next)),
     }
 }
 
-/// Behind the first token of a statement.
+/// Behind the first token of a statement: that statement, and where it is an open one, an assignment to an array `else` behind it.
 #[cycle(stmt)]
 pub(crate) fn statement(
     alloc: Global,
@@ -420,15 +577,19 @@ pub(crate) fn statement(
     first: First<'_>,
     symbols: &[Symbol<'_>],
     next: usize,
-) -> Answer<StmtDraft>
-    ensures { Gives (map seen symbols.now) stmt result (reading.statement prelude (length symbols.now) room (reading.stmts_inside prelude (length symbols.now) room) (reading.block_inside prelude (length symbols.now) room) (first_seen first.entry) (drop next (map seen symbols.now))) }
+) -> Answer<Items<StmtDraft>>
+    ensures { Gives (map seen symbols.now) (map stmt) result (reading.statement prelude (length symbols.now) room (reading.stmts_inside prelude (length symbols.now) room) (reading.block_inside prelude (length symbols.now) room) (first_seen first.entry) (drop next (map seen symbols.now))) }
 {
     match first {
         First::Word(name) => {
             let at = number_before(symbols, next);
             simple(alloc, prelude, room, at, name, symbols, next)
         }
-        First::Brace => block_inside(alloc, prelude, room, symbols, next),
+        First::Brace => {
+            let (s, next) = block_inside(alloc, prelude, room, symbols, next)?;
+            let whole = alone(alloc, s)?;
+            Ok((whole, next))
+        }
     }
 }
 
@@ -445,9 +606,9 @@ fn stmt_more(
 ) -> Answer<Items<StmtDraft>>
     ensures { Gives (map seen symbols.now) parts.stmts result (reading.stmt_more prelude (length symbols.now) room (reading.stmts_inside prelude (length symbols.now) room) (reading.block_inside prelude (length symbols.now) room) (first_seen first.entry) (parts.stmts stmts) (drop next (map seen symbols.now))) }
 {
-    let (s, next) = statement(alloc, prelude, room, first, symbols, next)?;
+    let (read, next) = statement(alloc, prelude, room, first, symbols, next)?;
     let mut stmts = stmts;
-    stmts.push(s)?;
+    stmts.append(read)?;
     Ok((stmts, next))
 }
 
@@ -534,9 +695,9 @@ fn block_stmt(
 ) -> Answer<Block>
     ensures { Gives (map seen symbols.now) block_seen result (reading.block_stmt prelude (length symbols.now) room (reading.stmts_inside prelude (length symbols.now) room) (reading.block_inside prelude (length symbols.now) room) (first_seen first.entry) (block_seen block) (drop next (map seen symbols.now))) }
 {
-    let (s, next) = statement(alloc, prelude, room, first, symbols, next)?;
+    let (read, next) = statement(alloc, prelude, room, first, symbols, next)?;
     let Block { locals, mut stmts } = block;
-    stmts.push(s)?;
+    stmts.append(read)?;
     Ok((Block { locals, stmts }, next))
 }
 

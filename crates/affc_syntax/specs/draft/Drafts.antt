@@ -1,5 +1,5 @@
 -- The grammar's draft that the parser's draft is.
-use Rattle.std.specs.Prelude.{ℕ, List, [], ◌∷◌, map}
+use Rattle.std.specs.Prelude.{List, [], ◌∷◌, map}
 use Rattle.affc_grammar.specs.Grammar as g
 use Rattle.affc_grammar.specs.Draft as d
 use Rattle.affc_syntax.specs.declared.draft.draft.Choice.{Choice}
@@ -12,6 +12,11 @@ use Rattle.affc_syntax.specs.declared.draft.draft.IxDraft.TheBlock.{more_of-IxDr
 use Rattle.affc_syntax.specs.declared.draft.draft.IxDraft.TheOpen as layer
 use Rattle.affc_syntax.specs.declared.draft.draft.IxDraft.TheOpen.{IxDraft-F}
 use Rattle.affc_syntax.specs.declared.draft.draft.CompareDraft.{CompareDraft}
+use Rattle.affc_syntax.specs.declared.draft.draft.CondDraft.{CondDraft}
+use Rattle.affc_syntax.specs.declared.draft.draft.CondDraft.TheVariants as k
+use Rattle.affc_syntax.specs.declared.draft.draft.CondDraft.TheBlock.{Row_of-CondDraft, more_of-CondDraft, end_of-CondDraft}
+use Rattle.affc_syntax.specs.declared.draft.draft.CondDraft.TheOpen as layer_k
+use Rattle.affc_syntax.specs.declared.draft.draft.CondDraft.TheOpen.{CondDraft-F}
 use Rattle.affc_syntax.specs.declared.draft.draft.ValueDraft.{ValueDraft}
 use Rattle.affc_syntax.specs.declared.draft.draft.ValueDraft.TheVariants as v
 use Rattle.affc_syntax.specs.declared.draft.draft.ValueDraft.TheBlock.{more_of-ValueDraft, end_of-ValueDraft}
@@ -65,7 +70,34 @@ ix (c.Chosen' at f s (more_of-IxDraft a end_of-IxDraft) t (more_of-IxDraft b end
 ix (c.Divided' at f s (more_of-IxDraft a end_of-IxDraft) by_at by) = ix_node (layer.Divided at f (ix a) by_at by)
 
 abbrev pub compare : CompareDraft → d.CompareDraft
-compare k = record { rel = k.rel; left = ix k.left; right = ix k.right }
+compare c = record { rel = c.rel; left = ix c.left; right = ix c.right }
+
+-- ---- Conditions
+
+-- behind others
+abbrev pub conds_after : d.CondsDraft → List d.CondDraft → d.CondsDraft
+conds_after cs [] = cs
+conds_after cs (x ∷ xs) = conds_after (d.and_cond cs x) xs
+
+abbrev pub conds_of : List d.CondDraft → d.CondsDraft
+conds_of xs = conds_after d.no_conds xs
+
+abbrev pub cond_node : CondDraft-F d.CondDraft → d.CondDraft
+cond_node (layer_k.Compare k) = d.comparison (compare k)
+cond_node (layer_k.Divides a by_at by so) = d.divisible (ix a) by_at by so
+cond_node (layer_k.All cs) = d.all_of (conds_of cs)
+cond_node (layer_k.Any cs) = d.any_of (conds_of cs)
+
+abbrev mutual
+  pub cond : CondDraft → d.CondDraft
+  cond (k.Compare c) = cond_node (layer_k.Compare c)
+  cond (k.Divides a by_at by so) = cond_node (layer_k.Divides a by_at by so)
+  cond (k.All' shape entries) = cond_node (layer_k.All (each_cond entries))
+  cond (k.Any' shape entries) = cond_node (layer_k.Any (each_cond entries))
+
+  pub each_cond : {n : _} → Row_of-CondDraft n → List d.CondDraft
+  each_cond end_of-CondDraft = []
+  each_cond (more_of-CondDraft x rest) = cond x ∷ each_cond rest
 
 -- ---- Values
 
@@ -106,14 +138,14 @@ stmts_of xs = stmts_after d.no_stmts xs
 
 abbrev pub stmt_node : StmtDraft-F d.StmtDraft → d.StmtDraft
 stmt_node (layer_s.For h body) = d.for_loop (head h) (stmts_of body)
-stmt_node (layer_s.If at conds body) = d.if_all at (map compare conds) (stmts_of body)
+stmt_node (layer_s.If at c body other) = d.if_cond at (cond c) (stmts_of body) (stmts_of other)
 stmt_node (layer_s.Assign w subs op a) = d.assign (word w) (map ix subs) op (value a)
 stmt_node (layer_s.Block locals body) = d.block (map local locals) (stmts_of body)
 
 abbrev mutual
   pub stmt : StmtDraft → d.StmtDraft
   stmt (s.For' h shape body) = stmt_node (layer_s.For h (each_stmt body))
-  stmt (s.If' at conds shape body) = stmt_node (layer_s.If at conds (each_stmt body))
+  stmt (s.If' at c shape body shape' other) = stmt_node (layer_s.If at c (each_stmt body) (each_stmt other))
   stmt (s.Assign w subs op a) = stmt_node (layer_s.Assign w subs op a)
   stmt (s.Block' locals shape body) = stmt_node (layer_s.Block locals (each_stmt body))
 

@@ -101,6 +101,23 @@ pub struct CompareDraft {
     pub right: IxDraft,
 }
 
+/// A condition of an `if`.
+#[derive(Drop)]
+pub enum CondDraft {
+    Compare(CompareDraft),
+    /// A remainder of the value by `by` that is 0, or isn't; `by_at` is the number of the token of `by`.
+    Divides {
+        value: IxDraft,
+        by_at: usize,
+        by: u64,
+        yes: bool,
+    },
+    /// Joined by `&&`; none is itself joined so.
+    All(Items<CondDraft>),
+    /// Joined by `||`; none is itself joined so.
+    Any(Items<CondDraft>),
+}
+
 /// A value: a `uint64_t`.
 pub enum ValueDraft {
     Load {
@@ -180,11 +197,12 @@ pub enum StmtDraft {
         head: HeadDraft,
         body: Items<StmtDraft>,
     },
-    /// `at` is the number of the word `if`.
+    /// `at` is the number of the word `if`; `other` is what stands behind the `else`, if there is one.
     If {
         at: usize,
-        conds: Items<CompareDraft>,
+        cond: CondDraft,
         body: Items<StmtDraft>,
+        other: Items<StmtDraft>,
     },
     Assign {
         array: WordDraft,

@@ -38,3 +38,23 @@ returns-clause-keywords_are_words c = refl
 pub returns-clause-else_is_a_word : goal.returns-clause-else_is_a_word
 unfolding computing
 returns-clause-else_is_a_word c = refl
+
+pub returns-clause-else_with_subscripts : goal.returns-clause-else_with_subscripts
+unfolding computing
+returns-clause-else_with_subscripts c = refl
+
+pub returns-clause-else_after_no_if : goal.returns-clause-else_after_no_if
+unfolding computing
+returns-clause-else_after_no_if c = refl
+
+pub returns-clause-else_has_a_body : goal.returns-clause-else_has_a_body
+unfolding computing
+returns-clause-else_has_a_body c = refl
+
+pub returns-clause-one_else : goal.returns-clause-one_else
+unfolding computing
+returns-clause-one_else c = refl
+
+pub returns-clause-else_ifs : goal.returns-clause-else_ifs
+unfolding computing
+returns-clause-else_ifs c = refl

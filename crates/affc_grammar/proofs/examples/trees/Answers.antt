@@ -18,3 +18,7 @@ returns-clause-numbers c = refl
 pub returns-clause-context_in_order : goal.returns-clause-context_in_order
 unfolding computing
 returns-clause-context_in_order c = refl
+
+pub returns-clause-conditions : goal.returns-clause-conditions
+unfolding computing
+returns-clause-conditions c = refl

@@ -1,6 +1,6 @@
-use Rattle.std.proofs.Common.{map, refl, ap, ◌∙◌}
+use Rattle.std.proofs.Common.{◌≡◌, map, refl, ap, ◌∙◌}
 use Rattle.affc_syntax.specs.draft.Drafts.{stmt}
-use Rattle.affc_limits.specs.Bodies.{under_if, under_for, all_bodies}
+use Rattle.affc_limits.specs.Bodies.{both, under_if, under_for, all_bodies}
 use Rattle.affc_limits.proofs.BodyLaws.{inside_is, of_for, of_if, of_block, of_all}
 use Rattle.affc_limits.proofs.bodies.+statements.Goals as goal
 
@@ -17,9 +17,11 @@ bodies_of-returns-in-For t c =
 
 pub bodies_of-returns-in-If : goal.bodies_of-returns-in-If
 bodies_of-returns-in-If t c =
+    let inside : c.bodies_of_all-inside-in-If.result ≡ all_bodies c.args.left (map stmt c.in-If.body) = c.bodies_of_all-inside-in-If.ensures ∙ ap (λ l. all_bodies c.args.left (map stmt l)) c.as_slice-in-If.ensures in
+    let behind : c.bodies_of_all-behind.result ≡ all_bodies c.args.left (map stmt c.in-If.other) = c.bodies_of_all-behind.ensures ∙ ap (λ l. all_bodies c.args.left (map stmt l)) c.as_slice-in-If-2.ensures in
     c.under_if.ensures
-    ∙ ap (under_if c.in-If.at) (c.bodies_of_all-inside-in-If.ensures ∙ ap (λ l. all_bodies c.args.left (map stmt l)) c.as_slice-in-If.ensures)
-    ∙ of_if c.args.left c.args.s.now c.in-If.at c.in-If.conds c.in-If.body c.in-If.is
+    ∙ ap (under_if c.in-If.at) (c.both.ensures ∙ (λ i. both (inside i) (behind i)))
+    ∙ of_if c.args.left c.args.s.now c.in-If.at c.in-If.cond c.in-If.body c.in-If.other c.in-If.is
 
 pub bodies_of-returns-in-Block : goal.bodies_of-returns-in-Block
 bodies_of-returns-in-Block t c =

@@ -1,6 +1,6 @@
-use Rattle.std.proofs.Common.{◌≡◌, map, flat_map, sym, ap, subst, IfOk, ◌∙◌}
-use Rattle.affc_grammar.specs.Limits.{sides, stmt_texts, stmts_texts, value_texts}
-use Rattle.affc_syntax.specs.draft.Drafts.{compare, ix, local, stmt, stmts_of, value}
+use Rattle.std.proofs.Common.{◌≡◌, map, sym, ap, subst, IfOk, ◌∙◌}
+use Rattle.affc_grammar.specs.Limits.{cond_texts, stmt_texts, stmts_texts, value_texts}
+use Rattle.affc_syntax.specs.draft.Drafts.{cond, ix, local, stmt, stmts_of, value}
 use Rattle.affc_limits.specs.Texts.{with_found}
 use Rattle.affc_limits.proofs.TextLaws.{gathered, texts_of, of_for, of_if, of_assign, of_block}
 use Rattle.affc_limits.proofs.texts.+statements.Goals as goal
@@ -16,13 +16,17 @@ in_stmt-returns-in_ok-bounds-in-For-clause-found t c =
     ∙ of_for c.args.rule c.args.before c.args.s.now c.in-For.head c.in-For.body c.in-For.is
     ) c.in_stmts.ensures.found
 
-pub in_stmt-returns-in_ok-tests-in-If-clause-found : goal.in_stmt-returns-in_ok-tests-in-If-clause-found
-in_stmt-returns-in_ok-tests-in-If-clause-found t c =
-    subst (λ o. IfOk c.in_stmts-in-If.result (λ p. p ≡ o)) (
-    ap (λ l. with_found c.args.rule c.in_ok-tests-in-If.tests (stmts_texts (stmts_of (map stmt l)))) c.as_slice-in-If-2.ensures
-    ∙ ap (λ o. with_found c.args.rule o (stmts_texts (stmts_of (map stmt c.in-If.body)))) (c.in_ok-tests-in-If.ensures.found ∙ ap (λ l. with_found c.args.rule c.args.before (flat_map sides (map compare l))) c.as_slice-in-If.ensures)
-    ∙ of_if c.args.rule c.args.before c.args.s.now c.in-If.at c.in-If.conds c.in-If.body c.in-If.is
-    ) c.in_stmts-in-If.ensures.found
+pub in_stmt-returns-in_ok-inside-in-If-clause-found : goal.in_stmt-returns-in_ok-inside-in-If-clause-found
+in_stmt-returns-in_ok-inside-in-If-clause-found t c =
+    let rule = c.args.rule in
+    let behind = stmts_texts (stmts_of (map stmt c.in-If.other)) in
+    let inside : c.in_ok-inside-in-If.inside ≡ with_found rule (with_found rule c.args.before (cond_texts (cond c.in-If.cond))) (stmts_texts (stmts_of (map stmt c.in-If.body))) =
+    c.in_ok-inside-in-If.ensures.found ∙ (λ i. with_found rule (c.in_ok-tests-in-If.ensures.found i) (stmts_texts (stmts_of (map stmt (c.as_slice-in-If.ensures i))))) in
+    subst (λ o. IfOk c.in_stmts-in-If-2.result (λ p. p ≡ o)) (
+    ap (λ l. with_found rule c.in_ok-inside-in-If.inside (stmts_texts (stmts_of (map stmt l)))) c.as_slice-in-If-2.ensures
+    ∙ (λ i. with_found rule (inside i) behind)
+    ∙ of_if rule c.args.before c.args.s.now c.in-If.at c.in-If.cond c.in-If.body c.in-If.other c.in-If.is
+    ) c.in_stmts-in-If-2.ensures.found
 
 pub in_stmt-returns-in_ok-values-in-Block-clause-found : goal.in_stmt-returns-in_ok-values-in-Block-clause-found
 in_stmt-returns-in_ok-values-in-Block-clause-found t c =

@@ -24,7 +24,7 @@ stmt_tree-returns-in-For-clause-tree t c =
 pub stmt_tree-returns-in-If-clause-tree : goal.stmt_tree-returns-in-If-clause-tree
 stmt_tree-returns-in-If-clause-tree t c =
     subst (λ (x : d.StmtDraft). Gives c.if_tree.result (names.stmt_tree c.args.scope.now (stored.stmt x)))
-    (sym (if_is c.args.draft.now c.in-If.at c.in-If.conds c.as_slice-in-If.result.now c.in-If.body c.as_slice-in-If-2.result.now c.in-If.is c.as_slice-in-If.ensures c.as_slice-in-If-2.ensures)) c.if_tree.ensures.tree
+    (sym (if_is c.args.draft.now c.in-If.at c.in-If.cond c.in-If.body c.as_slice-in-If.result.now c.in-If.other c.as_slice-in-If-2.result.now c.in-If.is c.as_slice-in-If.ensures c.as_slice-in-If-2.ensures)) c.if_tree.ensures.tree
 
 pub stmt_tree-returns-in-Block-clause-tree : goal.stmt_tree-returns-in-Block-clause-tree
 stmt_tree-returns-in-Block-clause-tree t c =

@@ -12,7 +12,7 @@ abbrev pub decreases-for_tree : goal.decreases-for_tree
 decreases-for_tree l = 3 * weights (seen.stmts_of (map seen.stmt l.body.now)) + 2
 
 abbrev pub decreases-if_tree : goal.decreases-if_tree
-decreases-if_tree l = 3 * weights (seen.stmts_of (map seen.stmt l.body.now)) + 2
+decreases-if_tree l = 3 * (weights (seen.stmts_of (map seen.stmt l.body.now)) + weights (seen.stmts_of (map seen.stmt l.other.now))) + 2
 
 abbrev pub decreases-block_tree : goal.decreases-block_tree
 decreases-block_tree l = 3 * weights (seen.stmts_of (map seen.stmt l.body.now)) + 2

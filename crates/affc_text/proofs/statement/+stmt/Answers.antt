@@ -53,7 +53,7 @@ under_heads-loop-first-preserved t c =
 pub under_heads-returns-in-Done : goal.under_heads-returns-in-Done
 under_heads-returns-in-Done t c =
     sym c.loop-first.invariant
-    ∙ heads_done c.args.prelude c.args.room c.args.symbols.now c.loop-first.next c.in-Some.behind (first_seen c.in-Some.first) c.in-Some.ensures (heads_seen c.loop-first.heads) (stmt c.in-Done.s) c.in_ok-turn.rest
+    ∙ heads_done c.args.prelude c.args.room c.args.symbols.now c.loop-first.next c.in-Some.behind (first_seen c.in-Some.first) c.in-Some.ensures (heads_seen c.loop-first.heads) (map stmt c.in-Done.read) c.in_ok-turn.rest
     (c.in_ok-turn.ensures ∙ ap (λ x. Ok (turn_seen x, drop c.in_ok-turn.rest (map seen c.args.symbols.now))) c.in-Done.is)
 
 pub under_heads-returns : goal.under_heads-returns

@@ -7,7 +7,7 @@ use Rattle.affc_text.proofs.statement.covered.Goals as goal
 
 pub loop-h-preserved : goal.loop-h-preserved
 loop-h-preserved c =
-    ap (covered (map head_seen c.pop.new.self)) (c.with_head-s.ensures ∙ ap (with_head (head_seen c.in-Some.h)) c.in_ok-body.ensures)
+    ap (covered (map head_seen c.pop.new.self)) (c.with_head-s.ensures ∙ ap (with_head (head_seen c.in-Some.h)) c.in_ok-body.ensures.stmts)
     ∙ sym (covered_last (map head_seen c.pop.new.self) (head_seen c.in-Some.h) (stmt c.loop-h.s))
     ∙ ap (λ l. covered l (stmt c.loop-h.s)) (sym (map-append head_seen c.pop.new.self (c.in-Some.h ∷ [])) ∙ ap (map head_seen) (sym c.in-Some.ensures))
     ∙ c.loop-h.invariant

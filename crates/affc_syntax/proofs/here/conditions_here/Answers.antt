@@ -1,7 +1,0 @@
-use Rattle.std.proofs.Common.{map}
-use Rattle.affc_syntax.specs.draft.Drafts.{compare}
-use Rattle.affc_syntax.proofs.Readers.{counted_gives}
-use Rattle.affc_syntax.proofs.here.conditions_here.Goals as goal
-
-pub returns-clause-read : goal.returns-clause-read
-returns-clause-read c = counted_gives c.args.symbols.now (map compare) c.conditions-answer.result c.counted.result _ c.counted.ensures c.conditions-answer.ensures
