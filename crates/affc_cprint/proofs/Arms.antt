@@ -1,26 +1,23 @@
 -- The pieces in which locals and statements are written.
-use Rattle.std.proofs.Common.{◌≡◌, ◌+◌, ℕ, zero, suc, Result, Ok, Err, OnOk, Bool, true, false, List, [], ◌∷◌, ◌++◌, map, take, length, codes, Option, refl, sym, ap, ◌∙◌, append_assoc, rules, arith}
+use Rattle.std.proofs.Common.{◌≡◌, ◌+◌, ◌≤◌, ℕ, zero, suc, Result, Ok, Err, OnOk, Bool, true, false, List, [], ◌∷◌, ◌++◌, map, take, length, codes, Option, refl, sym, ap, subst, ◌∙◌, append_assoc, arith}
 use Rattle.std.specs.List.{flat_map}
 use Rattle.std.proofs.lemmas.List.{append-nil}
 use Rattle.affc_ast.specs.declared.tree.ArrayId.{ArrayId}
-use Rattle.affc_ast.specs.declared.tree.Compare.{Compare}
+use Rattle.affc_ast.specs.declared.tree.Cond.{Cond}
 use Rattle.affc_ast.specs.declared.tree.Ix.{Ix}
 use Rattle.affc_ast.specs.declared.tree.Local.{Local}
 use Rattle.affc_ast.specs.declared.tree.Op.{Op}
 use Rattle.affc_ast.specs.declared.tree.Rel.{Rel}
 use Rattle.affc_ast.specs.declared.tree.Val.{Val}
-use Rattle.affc_ast.specs.declared.tree.Stmt.{Stmt, out-Stmt, map-Stmt, the_lemmas as stmt_lemmas}
+use Rattle.affc_ast.specs.declared.tree.Stmt.{Stmt}
 use Rattle.affc_ast.specs.declared.tree.Stmt.TheVariants.{For, If, Assign, Block}
-use Rattle.affc_ast.specs.declared.tree.Stmt.TheOpen as layer
-use Rattle.affc_ast.specs.declared.tree.Stmt.TheOpen.{Stmt-F}
-use Rattle.affc_ast.specs.Recursion.{by_stmt}
-use Rattle.affc_ast.proofs.Outs.{by_stmt_out}
+pub use Rattle.affc_ast.proofs.Steps.{for_here, if_here, block_here}
 use Rattle.affc_grammar.specs.Grammar.{Name, StmtText, no_stmts, no_locals, bound_mark, assign_mark}
-use Rattle.affc_grammar.specs.Printed.{Names, array_name, value_text, ix_text, conds_text, and_number, is_less, stmt_step, stmt_text, stmts_text, locals_text}
+use Rattle.affc_grammar.specs.Printed.{Names, array_name, value_text, ix_text, cond_text, and_number, is_less, stmt_step, stmt_text, stmts_text, locals_text}
 use Rattle.affc_cprint.specs.Adds.{Adds}
 use Rattle.affc_cprint.proofs.Writes.{◌next◌}
-use Rattle.affc_cprint.specs.Layout.{◌then◌, ix_layout, value_layout, conds_layout, indent, locals_layout, stmts_layout, stmt_layout}
-use Rattle.affc_cprint.specs.Statements.{first_numbers, head_layout, assign_layout, local_added, locals_added, with_locals, stmts_added, line_added}
+use Rattle.affc_cprint.specs.Layout.{◌then◌, ix_layout, value_layout, cond_layout, indent, locals_layout, stmts_layout, stmt_layout}
+use Rattle.affc_cprint.specs.Statements.{first_numbers, head_layout, if_layout, assign_layout, local_added, locals_added, with_locals, stmts_added, line_added}
 use Rattle.affc_cprint.proofs.Chains.{dims_are, stmts_are, locals_are, locals_names}
 
 six : (a b c d e f : List ℕ) → a then b then c then d then e then f ≡ (a ++ (b ++ (c ++ (d ++ e)))) ++ f
@@ -42,27 +39,6 @@ lines_are prelude level names body = stmts_are level names (map (stmt_text prelu
     mapped [] = refl
     mapped (x ∷ xs) = ap (λ t. line_added prelude level names x ++ t) (mapped xs)
 
--- ---- A step at each statement
-
-module _ {A : Type 0} (f : Stmt-F A → A) where
-  for_row : (iter : List ℕ) (low : Ix) (rel : Rel) (high : Ix) (body : List Stmt) → map-Stmt Stmt A (by_stmt f) (out-Stmt (For iter low rel high body)) ≡ layer.For iter low rel high (map (by_stmt f) body)
-  for_row iter low rel high body = first_of (simp stmt_lemmas, grind (arith, stmt_lemmas), search (rules, stmt_lemmas))
-
-  if_row : (conds : List Compare) (body : List Stmt) → map-Stmt Stmt A (by_stmt f) (out-Stmt (If conds body)) ≡ layer.If conds (map (by_stmt f) body)
-  if_row conds body = first_of (simp stmt_lemmas, grind (arith, stmt_lemmas), search (rules, stmt_lemmas))
-
-  block_row : (locals : List Local) (body : List Stmt) → map-Stmt Stmt A (by_stmt f) (out-Stmt (Block locals body)) ≡ layer.Block locals (map (by_stmt f) body)
-  block_row locals body = first_of (simp stmt_lemmas, grind (arith, stmt_lemmas), search (rules, stmt_lemmas))
-
-  pub for_here : (iter : List ℕ) (low : Ix) (rel : Rel) (high : Ix) (body : List Stmt) → by_stmt f (For iter low rel high body) ≡ f (layer.For iter low rel high (map (by_stmt f) body))
-  for_here iter low rel high body = by_stmt_out f (For iter low rel high body) ∙ ap f (for_row iter low rel high body)
-
-  pub if_here : (conds : List Compare) (body : List Stmt) → by_stmt f (If conds body) ≡ f (layer.If conds (map (by_stmt f) body))
-  if_here conds body = by_stmt_out f (If conds body) ∙ ap f (if_row conds body)
-
-  pub block_here : (locals : List Local) (body : List Stmt) → by_stmt f (Block locals body) ≡ f (layer.Block locals (map (by_stmt f) body))
-  block_here locals body = by_stmt_out f (Block locals body) ∙ ap f (block_row locals body)
-
 -- ---- Statements
 
 for_grouped : (a i b l c i' d m e h g i'' p q o body n z : List ℕ)
@@ -83,15 +59,33 @@ for_pieces prelude level names s iter low rel high body slice is same =
 if_grouped : (a cs q o body n z : List ℕ) → a then cs then q then (o then body then n then z) ≡ ((a ++ (cs ++ (q then o))) ++ body) ++ (n then z)
 if_grouped a cs q o body n z = simp append_assoc
 
-pub if_pieces : (prelude : Bool) (level : ℕ) (names : Names) (s : Stmt) (conds cs : List Compare) (body slice : List Stmt) → s ≡ If conds body → cs ≡ conds → slice ≡ body
-    → stmt_layout level (stmt_text prelude s names) ≡ ((codes "if (" ++ (conds_layout (conds_text prelude names cs) ++ codes ") {\n")) ++ flat_map (line_added prelude (suc level) names) slice) ++ (indent level then codes "}\n")
-if_pieces prelude level names s conds cs body slice is these same =
+pub if_pieces : (prelude : Bool) (level : ℕ) (names : Names) (s : Stmt) (c : Cond) (body slice other : List Stmt) → s ≡ If c body other → slice ≡ body → other ≡ []
+    → stmt_layout level (stmt_text prelude s names) ≡ (if_layout prelude names c ++ flat_map (line_added prelude (suc level) names) slice) ++ (indent level then codes "}\n")
+if_pieces prelude level names s c body slice other is same none =
+    ap (λ x. stmt_layout level (stmt_text prelude x names)) (is ∙ ap (If c body) none)
+    ∙ ap (λ (g : Names → StmtText prelude). stmt_layout level (g names)) (if_here (stmt_step prelude) c body [])
+    ∙ if_grouped (codes "if (") (cond_layout (cond_text prelude names c)) (codes ")") (codes " {\n") (stmts_layout (suc level) (stmts_text names no_stmts (map (stmt_text prelude) body))) (indent level) (codes "}\n")
+    ∙ ap (λ t. (if_layout prelude names c ++ t) ++ (indent level then codes "}\n")) (lines_are prelude (suc level) names body)
+    ∙ ap (λ b. (if_layout prelude names c ++ flat_map (line_added prelude (suc level) names) b) ++ (indent level then codes "}\n")) (sym same)
+
+else_grouped : (a cs q o body n e o' other z : List ℕ) → a then cs then q then (o then body then n then e) then (o' then other then n then z) ≡ ((((a ++ (cs ++ (q then o))) ++ body) ++ (n then (e then o'))) ++ other) ++ (n then z)
+else_grouped a cs q o body n e o' other z = simp append_assoc
+
+pub else_pieces : (prelude : Bool) (level : ℕ) (names : Names) (s : Stmt) (c : Cond) (body slice other slice' : List Stmt) → s ≡ If c body other → slice ≡ body → slice' ≡ other → 1 ≤ length other
+    → stmt_layout level (stmt_text prelude s names)
+    ≡ (((if_layout prelude names c ++ flat_map (line_added prelude (suc level) names) slice) ++ (indent level then codes "} else {\n")) ++ flat_map (line_added prelude (suc level) names) slice') ++ (indent level then codes "}\n")
+else_pieces prelude level names s c body slice [] slice' is same same' some = absurd (omega arith)
+else_pieces prelude level names s c body slice (y ∷ ys) slice' is same same' some =
+    let add = line_added prelude (suc level) names in
+    let end = indent level then codes "}\n" in
+    let between = indent level then codes "} else {\n" in
     ap (λ x. stmt_layout level (stmt_text prelude x names)) is
-    ∙ ap (λ (g : Names → StmtText prelude). stmt_layout level (g names)) (if_here (stmt_step prelude) conds body)
-    ∙ if_grouped (codes "if (") (conds_layout (conds_text prelude names conds)) (codes ")") (codes " {\n") (stmts_layout (suc level) (stmts_text names no_stmts (map (stmt_text prelude) body))) (indent level) (codes "}\n")
-    ∙ ap (λ t. ((codes "if (" ++ (conds_layout (conds_text prelude names conds) ++ codes ") {\n")) ++ t) ++ (indent level then codes "}\n")) (lines_are prelude (suc level) names body)
-    ∙ ap (λ b. ((codes "if (" ++ (conds_layout (conds_text prelude names conds) ++ codes ") {\n")) ++ flat_map (line_added prelude (suc level) names) b) ++ (indent level then codes "}\n")) (sym same)
-    ∙ ap (λ c. ((codes "if (" ++ (conds_layout (conds_text prelude names c) ++ codes ") {\n")) ++ flat_map (line_added prelude (suc level) names) slice) ++ (indent level then codes "}\n")) (sym these)
+    ∙ ap (λ (g : Names → StmtText prelude). stmt_layout level (g names)) (if_here (stmt_step prelude) c body (y ∷ ys))
+    ∙ else_grouped (codes "if (") (cond_layout (cond_text prelude names c)) (codes ")") (codes " {\n") (stmts_layout (suc level) (stmts_text names no_stmts (map (stmt_text prelude) body))) (indent level) (codes "} else") (codes " {\n") (stmts_layout (suc level) (stmts_text names no_stmts (map (stmt_text prelude) (y ∷ ys)))) (codes "}\n")
+    ∙ ap (λ t. (((if_layout prelude names c ++ t) ++ between) ++ stmts_layout (suc level) (stmts_text names no_stmts (map (stmt_text prelude) (y ∷ ys)))) ++ end) (lines_are prelude (suc level) names body)
+    ∙ ap (λ t. (((if_layout prelude names c ++ flat_map add body) ++ between) ++ t) ++ end) (lines_are prelude (suc level) names (y ∷ ys))
+    ∙ ap (λ b. (((if_layout prelude names c ++ flat_map add b) ++ between) ++ flat_map add (y ∷ ys)) ++ end) (sym same)
+    ∙ ap (λ b. (((if_layout prelude names c ++ flat_map add slice) ++ between) ++ flat_map add b) ++ end) (sym same')
 
 block_grouped : (a ls body n z : List ℕ) → a then ls then body then n then z ≡ ((a ++ ls) ++ body) ++ (n then z)
 block_grouped a ls body n z = simp append_assoc
@@ -159,19 +153,43 @@ for_exit r o3 prelude level names s iter w v low rel high body slice n1 n2 n3 in
     let back : n3 ≡ names = gone ∙ ap (first_numbers held) (kept ∙ shown) ∙ ap (λ k. first_numbers k (and_number names v)) count ∙ iterator_gone names v in
     ends_with r o3 (indent level then codes "}\n") (stmt_layout level (stmt_text prelude s names)) (before next loop) fin tree back
 
-pub if_exit : {A E : Type 0} (r : Result A E) {o0 o1 o2 : List ℕ} (o3 : List ℕ) (prelude : Bool) (level : ℕ) (names : Names) (s : Stmt) (conds cs : List Compare) (body slice : List Stmt) (n1 : Names) (inner : ℕ)
-    → s ≡ If conds body → cs ≡ conds → slice ≡ body → inner ≡ level + 1
-    → Adds o0 o1 (codes "if (" ++ (conds_layout (conds_text prelude names cs) ++ codes ") {\n"))
-    → Adds o1 o2 (flat_map (line_added prelude inner names) slice) → n1 ≡ names
+none_of : (slice other : List Stmt) → slice ≡ other → length slice ≡ 0 → other ≡ []
+none_of [] other e h = sym e
+none_of (x ∷ xs) other e h = absurd (omega arith)
+
+pub if_exit : {A E : Type 0} (r : Result A E) {o0 o1 o2 : List ℕ} (o3 : List ℕ) (prelude : Bool) (level : ℕ) (names : Names) (s : Stmt) (c : Cond) (body slice other slice' : List Stmt) (n1 : Names) (inner : ℕ)
+    → s ≡ If c body other → slice ≡ body → slice' ≡ other → length slice' ≡ 0 → inner ≡ level + 1
+    → Adds o0 o1 (if_layout prelude names c) → Adds o1 o2 (flat_map (line_added prelude inner names) slice) → n1 ≡ names
     → OnOk r (Adds o2 o3 (indent level then codes "}\n")) → OnOk r (Adds o0 o3 (stmt_layout level (stmt_text prelude s names)) × (n1 ≡ names))
-if_exit r o3 prelude level names s conds cs body slice n1 inner is these same deep before loop kept fin =
+if_exit r o3 prelude level names s c body slice other slice' n1 inner is same same' none deep before loop kept fin =
     let q : inner ≡ suc level = omega arith in
     let lines : flat_map (line_added prelude inner names) slice ≡ flat_map (line_added prelude (suc level) names) slice
     = ap (λ k. flat_map (line_added prelude k names) slice) q in
-    let tree : stmt_layout level (stmt_text prelude s names) ≡ ((codes "if (" ++ (conds_layout (conds_text prelude names cs) ++ codes ") {\n")) ++ flat_map (line_added prelude inner names) slice) ++ (indent level then codes "}\n")
-    = if_pieces prelude level names s conds cs body slice is these same
-    ∙ ap (λ t. ((codes "if (" ++ (conds_layout (conds_text prelude names cs) ++ codes ") {\n")) ++ t) ++ (indent level then codes "}\n")) (sym lines) in
+    let tree : stmt_layout level (stmt_text prelude s names) ≡ (if_layout prelude names c ++ flat_map (line_added prelude inner names) slice) ++ (indent level then codes "}\n")
+    = if_pieces prelude level names s c body slice other is same (none_of slice' other same' none)
+    ∙ ap (λ t. (if_layout prelude names c ++ t) ++ (indent level then codes "}\n")) (sym lines) in
     ends_with r o3 (indent level then codes "}\n") (stmt_layout level (stmt_text prelude s names)) (before next loop) fin tree kept
+
+pub else_exit : {A E : Type 0} (r : Result A E) {o0 o1 o2 o3 o4 : List ℕ} (o5 : List ℕ) (prelude : Bool) (level : ℕ) (names : Names) (s : Stmt) (c : Cond) (body slice other slice' : List Stmt) (n1 n2 : Names) (inner : ℕ)
+    → s ≡ If c body other → slice ≡ body → slice' ≡ other → 1 ≤ length slice' → inner ≡ level + 1
+    → Adds o0 o1 (if_layout prelude names c) → Adds o1 o2 (flat_map (line_added prelude inner names) slice) → n1 ≡ names
+    → Adds o2 o3 (indent level then codes "} else {\n") → Adds o3 o4 (flat_map (line_added prelude inner n1) slice') → n2 ≡ n1
+    → OnOk r (Adds o4 o5 (indent level then codes "}\n")) → OnOk r (Adds o0 o5 (stmt_layout level (stmt_text prelude s names)) × (n2 ≡ names))
+else_exit r o5 prelude level names s c body slice other slice' n1 n2 inner is same same' some deep before loop kept between loop' kept' fin =
+    let q : inner ≡ suc level = omega arith in
+    let at_least : 1 ≤ length other = subst (λ l. 1 ≤ length l) same' some in
+    let lines : (ss : List Stmt) → flat_map (line_added prelude inner names) ss ≡ flat_map (line_added prelude (suc level) names) ss
+    = λ ss. ap (λ k. flat_map (line_added prelude k names) ss) q in
+    let lines' : flat_map (line_added prelude inner n1) slice' ≡ flat_map (line_added prelude (suc level) names) slice'
+    = ap (λ n. flat_map (line_added prelude inner n) slice') kept ∙ lines slice' in
+    let end = indent level then codes "}\n" in
+    let middle = indent level then codes "} else {\n" in
+    let tree : stmt_layout level (stmt_text prelude s names)
+    ≡ (((if_layout prelude names c ++ flat_map (line_added prelude inner names) slice) ++ middle) ++ flat_map (line_added prelude inner n1) slice') ++ end
+    = else_pieces prelude level names s c body slice other slice' is same same' at_least
+    ∙ ap (λ t. (((if_layout prelude names c ++ t) ++ middle) ++ flat_map (line_added prelude (suc level) names) slice') ++ end) (sym (lines slice))
+    ∙ ap (λ t. (((if_layout prelude names c ++ flat_map (line_added prelude inner names) slice) ++ middle) ++ t) ++ end) (sym lines') in
+    ends_with r o5 end (stmt_layout level (stmt_text prelude s names)) (((before next loop) next between) next loop') fin tree (kept' ∙ kept)
 
 pub block_exit : {A E : Type 0} (r : Result A E) {o0 o1 o2 : List ℕ} (o3 : List ℕ) (prelude : Bool) (level : ℕ) (names : Names) (s : Stmt) (ls these : List Local) (body slice : List Stmt) (n1 n2 n3 : Names) (inner held : ℕ)
     → s ≡ Block ls body → these ≡ ls → slice ≡ body → inner ≡ level + 1 → held ≡ length names.numbers

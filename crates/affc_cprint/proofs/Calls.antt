@@ -11,21 +11,21 @@ use Rattle.affc_ast.specs.declared.tree.Ix.TheOpen as layer
 use Rattle.affc_ast.specs.declared.tree.Ix.TheOpen.{Ix-F}
 use Rattle.affc_ast.specs.declared.tree.Compare.{Compare}
 use Rattle.affc_ast.specs.declared.tree.Rel.{Rel}
-use Rattle.affc_ast.specs.declared.tree.Rel.TheVariants.{Less, LessEqual, Greater, GreaterEqual, Equal}
+use Rattle.affc_ast.specs.declared.tree.Rel.TheVariants.{Less, LessEqual, Greater, GreaterEqual, Equal, NotEqual}
 use Rattle.affc_ast.specs.declared.tree.Param.{Param}
 use Rattle.affc_ast.specs.declared.tree.Param.TheVariants.{Number, Array}
 use Rattle.affc_ast.specs.declared.tree.Program.{Program}
 use Rattle.affc_ast.specs.Recursion.{by_ix}
-use Rattle.affc_grammar.specs.Grammar.{Name, Symbol, word, number as number_symbol, mark, is_word_kind, is_mark_kind, Choice, minimum, maximum, remainder, Rounding, down, up, choice_name, rounding_name, rel_mark, IxText, term, plus, minus, TermText, factor, times, FactorText, atom, negated, AtomText, literal, name, grouped, chosen, divided, CondsText, cond, and_cond, CondText, all_of, compared, PragmasText, no_pragmas, and_range, and_context, line_feed, Text, has_call, context_calls, ix_symbols, term_symbols, factor_symbols, atom_symbols, conds_symbols, cond_symbols, include_symbols}
+use Rattle.affc_grammar.specs.Grammar.{Name, Symbol, word, number as number_symbol, mark, is_word_kind, is_mark_kind, Choice, minimum, maximum, remainder, Rounding, down, up, choice_name, rounding_name, rel_mark, IxText, term, plus, minus, TermText, factor, times, FactorText, atom, negated, AtomText, literal, name, grouped, chosen, divided, CondText, all_of, or_all, AllText, prim, and_prim, PrimText, enclosed, compared, divisible, PragmasText, no_pragmas, and_range, and_context, line_feed, Text, has_call, context_calls, ix_symbols, term_symbols, factor_symbols, atom_symbols, cond_symbols, all_symbols, prim_symbols, include_symbols}
 use Rattle.affc_grammar.specs.Draft as draft
-use Rattle.affc_grammar.specs.Draft.{PragmaDraft, ix_draft, term_draft, factor_draft, atom_draft, conds_draft, cond_draft, pragmas_draft, text_draft}
+use Rattle.affc_grammar.specs.Draft.{PragmaDraft, ix_draft, term_draft, factor_draft, atom_draft, conjuncts, cond_draft, all_draft, prim_draft, comparisons_in, pragmas_draft, text_draft}
 use Rattle.affc_grammar.specs.Names.{Scope, each, number_named, ix_tree, compare_tree, choice_tree, rounding_tree, thing_of, why_ranged, with_params, outermost, pragmas_tree, program_tree}
-use Rattle.affc_grammar.specs.Printed.{int_text, ranges_text, context_text, conds_text}
+use Rattle.affc_grammar.specs.Printed.{int_text, ranges_text, context_text, tests_text}
 use Rattle.affc_cprint.specs.Layout.{pragmas_of}
 use Rattle.affc_cprint.proofs.Nodes.{neg_here, add_here, sub_here, mul_here, min_here, max_here, mod_here, floord_here, ceild_here}
 use Rattle.affc_cprint.proofs.Sees.{ok_of, both_ok, allowed_ok}
 use Rattle.affc_cprint.proofs.Programs.{param_names_are}
-use Rattle.affc_cprint.proofs.ReadBackValues.{Each, each_append, each_split, one_ok, IsCompareBack, conds_again}
+use Rattle.affc_cprint.proofs.ReadBackValues.{Each, each_append, each_split, one_ok, IsCompareBack, comparisons_append, tests_again}
 use Rattle.affc_cprint.proofs.ReadBackTexts.{ProgramBack, inside_of, names_of, sees_inside}
 use Rattle.affc_cprint.proofs.Parts.{program_parts}
 
@@ -145,34 +145,42 @@ rel_is_no_bracket LessEqual = refl
 rel_is_no_bracket Greater = refl
 rel_is_no_bracket GreaterEqual = refl
 rel_is_no_bracket Equal = refl
+rel_is_no_bracket NotEqual = refl
 
 module _ {prelude : Bool} (scope : Scope) where
   mutual
-    conds_calls : (c : CondsText prelude) (at : ℕ) (xs : List Compare) → each (compare_tree scope) (conds_draft at c) ≡ Ok xs → Calls (conds_symbols c) (any_calls xs)
-    conds_calls (cond c) at xs e = cond_calls c at xs e
-    conds_calls (and_cond cs c) at xs e =
-        let p = each_split (compare_tree scope) (conds_draft at cs) (cond_draft _ c) xs e in
-        subst (Calls (conds_symbols cs ++ mark (codes "&&") ∷ cond_symbols c)) (sym (ap any_calls p.all ∙ list_any-append calls_beside p.front p.back))
-        (both_calls (codes "&&") (conds_symbols cs) (cond_symbols c) (any_calls p.front) (any_calls p.back) refl (conds_calls cs at p.front p.front_ok) (cond_calls c _ p.back p.back_ok))
+    tests_calls : (c : CondText prelude false) (at : ℕ) (xs : List Compare) → each (compare_tree scope) (comparisons_in (cond_draft at c)) ≡ Ok xs → Calls (cond_symbols c) (any_calls xs)
+    tests_calls (all_of a) at xs e = all_tests_calls a at xs e
+    tests_calls (or_all on c a) at xs e = absurd (cc)
 
-    cond_calls : (c : CondText prelude) (at : ℕ) (xs : List Compare) → each (compare_tree scope) (cond_draft at c) ≡ Ok xs → Calls (cond_symbols c) (any_calls xs)
-    cond_calls (all_of cs) at xs e = inside_calls (conds_symbols cs) (any_calls xs) (conds_calls cs (at + 1) xs e)
-    cond_calls (compared a rel b) at xs e =
-        let o = one_ok (compare_tree scope) (record { rel = rel; left = ix_draft at a; right = ix_draft _ b }) xs e in
+    all_tests_calls : (c : AllText prelude false) (at : ℕ) (xs : List Compare) → each (compare_tree scope) (comparisons_in (all_draft at c)) ≡ Ok xs → Calls (all_symbols c) (any_calls xs)
+    all_tests_calls (prim q) at xs e = test_calls q at xs e
+    all_tests_calls (and_prim a q) at xs e =
+        let next = at + length (all_symbols a) + 1 in
+        let p = each_split (compare_tree scope) (comparisons_in (all_draft at a)) (comparisons_in (prim_draft next q)) xs (ap (each (compare_tree scope)) (sym (comparisons_append (conjuncts (all_draft at a)) (conjuncts (prim_draft next q)))) ∙ e) in
+        subst (Calls (all_symbols a ++ mark (codes "&&") ∷ prim_symbols q)) (sym (ap any_calls p.all ∙ list_any-append calls_beside p.front p.back))
+        (both_calls (codes "&&") (all_symbols a) (prim_symbols q) (any_calls p.front) (any_calls p.back) refl (all_tests_calls a at p.front p.front_ok) (test_calls q next p.back p.back_ok))
+
+    test_calls : (c : PrimText prelude false) (at : ℕ) (xs : List Compare) → each (compare_tree scope) (comparisons_in (prim_draft at c)) ≡ Ok xs → Calls (prim_symbols c) (any_calls xs)
+    test_calls (enclosed c) at xs e = inside_calls (cond_symbols c) (any_calls xs) (tests_calls c (at + 1) xs e)
+    test_calls (compared a rel on b) at xs e =
+        let next = at + length (ix_symbols a) + 1 in
+        let o = one_ok (compare_tree scope) (record { rel = rel; left = ix_draft at a; right = ix_draft next b }) xs e in
         let p = both_ok (ix_tree scope (ix_draft at a)) _ o.0 o.1 in
-        let q = both_ok (ix_tree scope (ix_draft _ b)) _ o.0 p.2 in
+        let q = both_ok (ix_tree scope (ix_draft next b)) _ o.0 p.2 in
         subst (Calls (ix_symbols a ++ mark (rel_mark rel) ∷ ix_symbols b)) (ap calls_beside (ok_of q.2) ∙ sym (or_false (calls_beside o.0)) ∙ sym (ap any_calls o.2))
-        (both_calls (rel_mark rel) (ix_symbols a) (ix_symbols b) (calls_in p.0) (calls_in q.0) (rel_is_no_bracket rel) (ix_calls scope a at p.0 p.1) (ix_calls scope b _ q.0 q.1))
+        (both_calls (rel_mark rel) (ix_symbols a) (ix_symbols b) (calls_in p.0) (calls_in q.0) (rel_is_no_bracket rel) (ix_calls scope a at p.0 p.1) (ix_calls scope b next q.0 q.1))
+    test_calls (divisible on t by some so) at xs e = absurd (cc)
 
-  whole_calls : (c : CondsText prelude) (at : ℕ) (xs : List Compare) → each (compare_tree scope) (conds_draft at c) ≡ Ok xs → has_call (conds_symbols c) ≡ any_calls xs
-  whole_calls c at xs e = ap has_call (sym (append-nil (conds_symbols c))) ∙ conds_calls c at xs e [] refl ∙ or_false (any_calls xs)
+  whole_calls : (c : CondText prelude false) (at : ℕ) (xs : List Compare) → each (compare_tree scope) (comparisons_in (cond_draft at c)) ≡ Ok xs → has_call (cond_symbols c) ≡ any_calls xs
+  whole_calls c at xs e = ap has_call (sym (append-nil (cond_symbols c))) ∙ tests_calls c at xs e [] refl ∙ or_false (any_calls xs)
 
 -- ---- Lines
 
 -- a line without calls comes from a text
 abbrev QuietLine : PragmaDraft → Type 0
 QuietLine (draft.range w low_at low high) = Unit {0}
-QuietLine (draft.context at cs) = (t : CondsText true) × (at' : ℕ) × (conds_draft at' t ≡ cs) × (has_call (conds_symbols t) ≡ false)
+QuietLine (draft.context at cs) = (t : CondText true false) × (at' : ℕ) × (comparisons_in (cond_draft at' t) ≡ cs) × (has_call (cond_symbols t) ≡ false)
 
 both_off : (a b : Bool) → (a || b) ≡ false → (a ≡ false) × (b ≡ false)
 both_off true b e = absurd (false≢true (sym e))
@@ -182,7 +190,7 @@ pub quiet_lines : (c : PragmasText) (at : ℕ) → context_calls c ≡ false →
 quiet_lines no_pragmas at h = tt
 quiet_lines (and_range ps w low high line) at h = each_append QuietLine (pragmas_draft at ps) _ (quiet_lines ps at h) (tt, tt)
 quiet_lines (and_context ps cs line) at h =
-    let p = both_off (context_calls ps) (has_call (conds_symbols cs)) h in
+    let p = both_off (context_calls ps) (has_call (cond_symbols cs)) h in
     each_append QuietLine (pragmas_draft at ps) _ (quiet_lines ps at p.0) ((cs, _, refl, p.1), tt)
 
 pub quiet_context : (inside : Scope) (ps : List PragmaDraft) (earlier : List Name) (xs : List Compare) → Each QuietLine ps → pragmas_tree inside earlier ps ≡ Ok xs → any_calls xs ≡ false
@@ -207,8 +215,8 @@ printed_quiet p b none =
     of : (xs : List Compare) → Each (IsCompareBack true (inside_of p) (names_of p) (sees_inside p)) xs → any_calls xs ≡ false → context_calls (context_text (names_of p) (ranges_text no_pragmas p.params) xs) ≡ false
     of [] bs h = ranges_quiet no_pragmas p.params
     of (x ∷ xs) bs h =
-        let r = conds_again true (inside_of p) (names_of p) (sees_inside p) (x ∷ xs) bs (λ e. cc) in
-        ap (λ b. b || has_call (conds_symbols (conds_text true (names_of p) (x ∷ xs)))) (ranges_quiet no_pragmas p.params) ∙ whole_calls (inside_of p) (conds_text true (names_of p) (x ∷ xs)) 0 (x ∷ xs) (r.reads 0) ∙ h
+        let r = tests_again (inside_of p) (names_of p) (sees_inside p) x xs bs in
+        ap (λ b. b || has_call (cond_symbols (tests_text (names_of p) x xs))) (ranges_quiet no_pragmas p.params) ∙ whole_calls (inside_of p) (tests_text (names_of p) x xs) 0 (x ∷ xs) (r.reads 0) ∙ h
 
 -- A program that a text is read as has the prelude, or its lines are printed without calls.
 pub calls_again : (c : Text) (p : Program) → ProgramBack p → program_tree (text_draft c) ≡ Ok p → (p.prelude || not (context_calls (pragmas_of p))) ≡ true

@@ -1,17 +1,18 @@
 -- Lists that are written one behind the other.
-use Rattle.std.proofs.Common.{◌≡◌, ◌-◌, ◌≤◌, length, get_or, take, drop, arith, ℕ, zero, suc, Bool, true, false, List, [], ◌∷◌, ◌++◌, map, codes, refl, sym, ap, ◌∙◌, append_assoc}
+use Rattle.std.proofs.Common.{◌≡◌, ◌+◌, ◌-◌, ◌<◌, ◌≤◌, length, get_or, take, drop, arith, ℕ, zero, suc, Bool, true, false, List, [], ◌∷◌, ◌++◌, codes, refl, sym, ap, ◌∙◌, append_assoc}
 use Rattle.std.specs.List.{flat_map}
-use Rattle.std.proofs.lemmas.List.{append-nil, take_all}
+use Rattle.std.proofs.lemmas.List.{append-nil, take_all, take_more}
+use Rattle.std.proofs.lemmas.List.Concat.{flat_map-append}
 use Rattle.affc_ast.specs.declared.tree.Ix.{Ix}
 use Rattle.affc_ast.specs.declared.tree.Compare.{Compare}
 use Rattle.affc_ast.specs.declared.tree.Local.{Local}
 use Rattle.affc_ast.specs.declared.tree.Rel.{Rel}
-use Rattle.affc_grammar.specs.Grammar.{Name, bound_mark, DimsText, no_dims, and_dim, CondsText, cond, and_cond, LocalsText, no_locals, StmtsText, no_stmts, and_stmt, StmtText}
-use Rattle.affc_grammar.specs.Printed.{Names, is_less, ix_text, and_dims, dims_text, cond_text, and_conds, conds_text, and_number, local_text, locals_text, stmts_text}
+use Rattle.affc_grammar.specs.Grammar.{Name, bound_mark, DimsText, no_dims, and_dim, AllText, prim, and_prim, LocalsText, no_locals, StmtsText, no_stmts, and_stmt, StmtText}
+use Rattle.affc_grammar.specs.Printed.{Names, is_less, ix_text, and_dims, dims_text, test_text, and_tests, and_number, local_text, locals_text, stmts_text}
 use Rattle.affc_cprint.specs.Adds.{Adds}
 use Rattle.affc_cprint.proofs.Writes.{◌next◌}
-use Rattle.affc_cprint.specs.Layout.{◌then◌, ix_layout, dims_layout, cond_layout, conds_layout, indent, locals_layout, stmts_layout}
-use Rattle.affc_cprint.specs.Statements.{head_layout, dim_added, cond_added, local_added, locals_added, with_locals, stmt_added, stmts_added}
+use Rattle.affc_cprint.specs.Layout.{◌then◌, ix_layout, dims_layout, all_layout, prim_layout, indent, locals_layout, stmts_layout}
+use Rattle.affc_cprint.specs.Statements.{head_layout, dim_added, test_added, tests_added, local_added, locals_added, with_locals, stmt_added, stmts_added}
 
 -- ---- Subscripts and extents
 
@@ -25,18 +26,18 @@ dims_from prelude names ds (e ∷ es) =
 pub dims_are : (prelude : Bool) (names : Names) (es : List Ix) → dims_layout (dims_text prelude names es) ≡ flat_map (dim_added prelude names) es
 dims_are prelude names es = dims_from prelude names no_dims es
 
--- ---- Conditions
+-- ---- Conditions of a `context` line
 
-conds_from : (prelude : Bool) (names : Names) (ds : CondsText prelude) (cs : List Compare)
-    → conds_layout (and_conds prelude names ds cs) ≡ conds_layout ds ++ flat_map (cond_added prelude names) cs
-conds_from prelude names ds [] = sym (append-nil (conds_layout ds))
-conds_from prelude names ds (c ∷ cs) =
-    conds_from prelude names (and_cond ds (cond_text prelude names c)) cs
-    ∙ append_assoc (conds_layout ds) (cond_added prelude names c) (flat_map (cond_added prelude names) cs)
+tests_from : (names : Names) (a : AllText true false) (cs : List Compare)
+    → all_layout (and_tests names a cs) ≡ all_layout a ++ flat_map (test_added names) cs
+tests_from names a [] = sym (append-nil (all_layout a))
+tests_from names a (c ∷ cs) =
+    tests_from names (and_prim a (test_text names c)) cs
+    ∙ append_assoc (all_layout a) (test_added names c) (flat_map (test_added names) cs)
 
-pub conds_are : (prelude : Bool) (names : Names) (c : Compare) (cs : List Compare)
-    → conds_layout (conds_text prelude names (c ∷ cs)) ≡ cond_layout (cond_text prelude names c) ++ flat_map (cond_added prelude names) cs
-conds_are prelude names c cs = conds_from prelude names (cond (cond_text prelude names c)) cs
+pub tests_are : (names : Names) (c : Compare) (cs : List Compare)
+    → tests_added names (c ∷ cs) ≡ prim_layout (test_text names c) ++ flat_map (test_added names) cs
+tests_are names c cs = tests_from names (prim (test_text names c)) cs
 
 -- ---- Statements
 
@@ -82,13 +83,22 @@ first_and_rest [] x h e = absurd (omega arith)
 first_and_rest (y ∷ ys) x h e = let n : length ys ≤ length (y ∷ ys) - 1 = omega arith in (λ i. sym e i ∷ sym (take_all (length (y ∷ ys) - 1) ys n) i)
 
 -- the first condition, and a loop over the others
-pub conds_end : {o0 o1 o2 : List ℕ} (prelude : Bool) (names : Names) (cs : List Compare) (x : Compare) (i : ℕ) → 1 ≤ length cs → x ≡ get_or cs 0 x → length (take (length cs - 1) (drop 1 cs)) ≤ i
-    → Adds o0 o1 (cond_layout (cond_text prelude names x)) → Adds o1 o2 (flat_map (cond_added prelude names) (take i (take (length cs - 1) (drop 1 cs)))) → Adds o0 o2 (conds_layout (conds_text prelude names cs))
-conds_end {o0 = o0} prelude names cs x i some first past before loop =
+pub tests_end : {o0 o1 o2 : List ℕ} (names : Names) (cs : List Compare) (x : Compare) (i : ℕ) → 1 ≤ length cs → x ≡ get_or cs 0 x → length (take (length cs - 1) (drop 1 cs)) ≤ i
+    → Adds o0 o1 (prim_layout (test_text names x)) → Adds o1 o2 (flat_map (test_added names) (take i (take (length cs - 1) (drop 1 cs)))) → Adds o0 o2 (tests_added names cs)
+tests_end {o0 = o0} names cs x i some first past before loop =
     let rest = take (length cs - 1) (drop 1 cs) in
-    let whole : conds_layout (conds_text prelude names cs) ≡ cond_layout (cond_text prelude names x) ++ flat_map (cond_added prelude names) rest
-    = ap (λ l. conds_layout (conds_text prelude names l)) (first_and_rest cs x some first) ∙ conds_are prelude names x rest in
-    record { is = (before next loop).is ∙ ap (λ l. o0 ++ (cond_layout (cond_text prelude names x) ++ flat_map (cond_added prelude names) l)) (take_all i rest past) ∙ ap (λ t. o0 ++ t) (sym whole) }
+    let whole : tests_added names cs ≡ prim_layout (test_text names x) ++ flat_map (test_added names) rest
+    = ap (tests_added names) (first_and_rest cs x some first) ∙ tests_are names x rest in
+    record { is = (before next loop).is ∙ ap (λ l. o0 ++ (prim_layout (test_text names x) ++ flat_map (test_added names) l)) (take_all i rest past) ∙ ap (λ t. o0 ++ t) (sym whole) }
+
+-- one more condition behind those before it
+pub tests_more : {o0 o1 o2 o3 : List ℕ} (names : Names) (cs : List Compare) (x : Compare) (i : ℕ) → i < length cs → x ≡ get_or cs i x
+    → Adds o0 o1 (flat_map (test_added names) (take i cs)) → Adds o1 o2 (codes " && ") → Adds o2 o3 (prim_layout (test_text names x)) → Adds o0 o3 (flat_map (test_added names) (take (i + 1) cs))
+tests_more {o0 = o0} names cs x i lt is before between one =
+    let more : flat_map (test_added names) (take (i + 1) cs) ≡ flat_map (test_added names) (take i cs) ++ test_added names x =
+    ap (flat_map (test_added names)) (take_more cs i x lt ∙ ap (λ z. take i cs ++ z ∷ []) (sym is)) ∙ flat_map-append (test_added names) (take i cs) (x ∷ [])
+    ∙ ap (λ t. flat_map (test_added names) (take i cs) ++ t) (append-nil (test_added names x)) in
+    record { is = (before next (between next one)).is ∙ ap (λ t. o0 ++ t) (sym more) }
 
 regrouped : (a b c d e f g h i j k l m : List ℕ) → a then b then c then d then e then f then g then h then i then j then k then l then m
     ≡ (a ++ (b ++ (c ++ (d ++ (e ++ (f ++ ((g ++ (h ++ i)) ++ (j ++ (k ++ l))))))))) ++ m
@@ -105,5 +115,3 @@ head_pieces prelude names i low rel high =
 pub indent_more : (level : ℕ) → (level ≡ 0 → ⊥) → indent level ≡ codes "  " ++ indent (level - 1)
 indent_more zero h = absurd (h refl)
 indent_more (suc level) h = let e : level ≡ suc level - 1 = omega arith in ap (λ n. codes "  " ++ indent n) e
-
-pub ruleset conditions = (conds_are, append_assoc)

@@ -98,7 +98,7 @@ shifted_by left v by true e None s = cc
 shifted_by left v by false e (Some h) s = cc
 shifted_by left v by false e None s = refl
 
-held : (b : Bool) → is_some (holding b) ≡ b
+pub held : (b : Bool) → is_some (holding b) ≡ b
 held true = refl
 held false = refl
 

@@ -8,7 +8,7 @@ use Rattle.affc_lex.specs.declared.token.Kind.TheVariants.{Word, Number, Value, 
 use Rattle.affc_lex.specs.Bytes.{same}
 use Rattle.affc_lex.specs.Pieces.{is_on_directive}
 use Rattle.affc_lex.specs.Lexes.{Lexeme, Lexes, is_hash, is_line_end, is_word_kind, begins_scop_line, without_scop_lines, tokens_from, contains_refused}
-use Rattle.affc_grammar.specs.Grammar.{Symbol, symbol, word, line_feed, text_end, PragmasText, no_pragmas, and_range, and_context, Text, int_symbols, conds_symbols, pragma_symbols, pragmas_symbols, prelude_symbols, include_symbols, line_symbols, function_symbols, text_symbols}
+use Rattle.affc_grammar.specs.Grammar.{Symbol, symbol, word, line_feed, text_end, PragmasText, no_pragmas, and_range, and_context, Text, int_symbols, cond_symbols, pragma_symbols, pragmas_symbols, prelude_symbols, include_symbols, line_symbols, function_symbols, text_symbols}
 use Rattle.affc_cprint.specs.Layout.{◌then◌, pragmas_layout, prelude_layout, function_layout}
 use Rattle.affc_cprint.proofs.Stretch.{symbols-tokens}
 use Rattle.affc_cprint.proofs.Spelled.{AllStand, can_stand}
@@ -92,11 +92,11 @@ lines_quiet (and_range ps w low high line_feed) rest s e =
     grouped a b c d = simp append_assoc
 lines_quiet (and_context ps cs text_end) rest s e = absurd (cc)
 lines_quiet (and_context ps cs line_feed) rest s e =
-    ap no_scop (append_assoc (pragmas_symbols ps) (pragma_symbols (codes "context") ++ (conds_symbols cs ++ line_symbols line_feed)) rest)
-    ∙ lines_quiet ps ((pragma_symbols (codes "context") ++ (conds_symbols cs ++ line_symbols line_feed)) ++ rest) s.0
-    (ap no_scop (ap (λ ss. pragma_symbols (codes "context") ++ ss) (append_assoc (conds_symbols cs) (line_symbols line_feed) rest))
-    ∙ quiet (word (codes "pragma") ∷ word (codes "affc") ∷ word (codes "context") ∷ []) (conds_symbols cs ++ (line_symbols line_feed ++ rest)) refl
-    (quiet (conds_symbols cs) (line_symbols line_feed ++ rest) (stand_hashless (conds_symbols cs) s.2) (quiet (line_symbols line_feed) rest refl e)))
+    ap no_scop (append_assoc (pragmas_symbols ps) (pragma_symbols (codes "context") ++ (cond_symbols cs ++ line_symbols line_feed)) rest)
+    ∙ lines_quiet ps ((pragma_symbols (codes "context") ++ (cond_symbols cs ++ line_symbols line_feed)) ++ rest) s.0
+    (ap no_scop (ap (λ ss. pragma_symbols (codes "context") ++ ss) (append_assoc (cond_symbols cs) (line_symbols line_feed) rest))
+    ∙ quiet (word (codes "pragma") ∷ word (codes "affc") ∷ word (codes "context") ∷ []) (cond_symbols cs ++ (line_symbols line_feed ++ rest)) refl
+    (quiet (cond_symbols cs) (line_symbols line_feed ++ rest) (stand_hashless (cond_symbols cs) s.2) (quiet (line_symbols line_feed) rest refl e)))
 
 prelude_quiet : (b : Bool) (rest : List Symbol) → no_scop rest ≡ true → no_scop (prelude_symbols b ++ rest) ≡ true
 prelude_quiet true rest e = quiet (prelude_symbols true) rest refl e

@@ -14,9 +14,9 @@ use Rattle.affc_lex.specs.Lexes.{contains_refused}
 use Rattle.affc_ast.specs.declared.tree.Op.{Op}
 use Rattle.affc_ast.specs.declared.tree.Op.TheVariants.{Add, Sub, Mul, And, Or, Xor}
 use Rattle.affc_ast.specs.declared.tree.Rel.{Rel}
-use Rattle.affc_ast.specs.declared.tree.Rel.TheVariants.{Less, LessEqual, Greater, GreaterEqual, Equal}
-use Rattle.affc_grammar.specs.Grammar.{Symbol, word, number, mark, minimum, maximum, remainder, down, up, choice_name, rounding_name, rel_mark, op_mark, shift_mark, IxText, term, plus, minus, TermText, factor, times, FactorText, atom, negated, AtomText, literal, name, grouped, chosen, divided, DimsText, no_dims, and_dim, CondsText, cond, and_cond, CondText, all_of, compared, ValueText, complement, load, constant, parens, cast, operand, binary, shift, ix_symbols, term_symbols, factor_symbols, atom_symbols, dims_symbols, dim_symbols, conds_symbols, cond_symbols, value_symbols}
-use Rattle.affc_cprint.specs.Layout.{◌then◌, ix_layout, term_layout, factor_layout, atom_layout, dims_layout, conds_layout, cond_layout, value_layout}
+use Rattle.affc_ast.specs.declared.tree.Rel.TheVariants.{Less, LessEqual, Greater, GreaterEqual, Equal, NotEqual}
+use Rattle.affc_grammar.specs.Grammar.{Symbol, word, number, mark, minimum, maximum, remainder, down, up, choice_name, rounding_name, rel_mark, zero_mark, op_mark, shift_mark, IxText, term, plus, minus, TermText, factor, times, FactorText, atom, negated, AtomText, literal, name, grouped, chosen, divided, DimsText, no_dims, and_dim, CondText, all_of, or_all, AllText, prim, and_prim, PrimText, enclosed, compared, divisible, ValueText, complement, load, constant, parens, cast, operand, binary, shift, ix_symbols, term_symbols, factor_symbols, atom_symbols, dims_symbols, dim_symbols, cond_symbols, all_symbols, prim_symbols, value_symbols}
+use Rattle.affc_cprint.specs.Layout.{◌then◌, ix_layout, term_layout, factor_layout, atom_layout, dims_layout, cond_layout, all_layout, prim_layout, value_layout}
 use Rattle.affc_cprint.proofs.Stretch.{Stretch, ◌join◌, nothing, Calm}
 use Rattle.affc_cprint.proofs.Spelled.{AllStand, stand_parts, Loose, IsName, IsNumeral, IsConstant, name_of_symbol, numeral_of_symbol, no_prelude, letters_calm, letters_of_word, letters_of_digits, digits_of_number, value_calm, on_off, lone, spaced, minus_before, goes_on_minus, letter_no_minus}
 
@@ -225,24 +225,45 @@ rel_is_mark LessEqual = record { is = refl; calm = λ rest h. h }
 rel_is_mark Greater = record { is = refl; calm = λ rest h. h }
 rel_is_mark GreaterEqual = record { is = refl; calm = λ rest h. h }
 rel_is_mark Equal = record { is = refl; calm = λ rest h. h }
+rel_is_mark NotEqual = record { is = refl; calm = λ rest h. h }
 
 both_mark : IsMark (codes "&&")
 both_mark = record { is = refl; calm = λ rest h. h }
 
-mutual
-  pub conds_lexed : {prelude : Bool} (d : Bool) (c : CondsText prelude) (after : List ℕ) → AllStand (conds_symbols c) → Loose after → Stretch (line_spot d) (conds_layout c) (conds_symbols c) (line_spot d) after
-  conds_lexed d (cond c) after s loose = cond_lexed d c after s loose
-  conds_lexed d (and_cond cs c) after s loose =
-      let p = stand_parts (conds_symbols cs) (mark (codes "&&") ∷ cond_symbols c) s in
-      conds_lexed d cs (codes " && " ++ cond_layout c ++ after) p.0 refl join gap _ join between d (codes "&&") _ both_mark join gap _ join cond_lexed d c after p.1 loose
+either_mark : IsMark (codes "||")
+either_mark = record { is = refl; calm = λ rest h. h }
 
-  pub cond_lexed : {prelude : Bool} (d : Bool) (c : CondText prelude) (after : List ℕ) → AllStand (cond_symbols c) → Loose after → Stretch (line_spot d) (cond_layout c) (cond_symbols c) (line_spot d) after
-  cond_lexed d (all_of cs) after s loose =
-      let p = stand_parts (conds_symbols cs) (mark (codes ")") ∷ []) s in
-      opening d _ join conds_lexed d cs (codes ")" ++ after) p.0 refl join closing d after
-  cond_lexed d (compared a rel b) after s loose =
+remainder_mark : IsMark (codes "%")
+remainder_mark = record { is = refl; calm = λ rest h. h }
+
+zero_is_mark : (so : Bool) → IsMark (zero_mark so)
+zero_is_mark true = record { is = refl; calm = λ rest h. h }
+zero_is_mark false = record { is = refl; calm = λ rest h. h }
+
+mutual
+  pub cond_lexed : {prelude wide : Bool} (d : Bool) (c : CondText prelude wide) (after : List ℕ) → AllStand (cond_symbols c) → Loose after → Stretch (line_spot d) (cond_layout c) (cond_symbols c) (line_spot d) after
+  cond_lexed d (all_of a) after s loose = all_lexed d a after s loose
+  cond_lexed d (or_all _ c a) after s loose =
+      let p = stand_parts (cond_symbols c) (mark (codes "||") ∷ all_symbols a) s in
+      cond_lexed d c (codes " || " ++ all_layout a ++ after) p.0 refl join gap _ join between d (codes "||") _ either_mark join gap _ join all_lexed d a after p.1 loose
+
+  all_lexed : {prelude wide : Bool} (d : Bool) (c : AllText prelude wide) (after : List ℕ) → AllStand (all_symbols c) → Loose after → Stretch (line_spot d) (all_layout c) (all_symbols c) (line_spot d) after
+  all_lexed d (prim q) after s loose = prim_lexed d q after s loose
+  all_lexed d (and_prim a q) after s loose =
+      let p = stand_parts (all_symbols a) (mark (codes "&&") ∷ prim_symbols q) s in
+      all_lexed d a (codes " && " ++ prim_layout q ++ after) p.0 refl join gap _ join between d (codes "&&") _ both_mark join gap _ join prim_lexed d q after p.1 loose
+
+  prim_lexed : {prelude wide : Bool} (d : Bool) (c : PrimText prelude wide) (after : List ℕ) → AllStand (prim_symbols c) → Loose after → Stretch (line_spot d) (prim_layout c) (prim_symbols c) (line_spot d) after
+  prim_lexed d (enclosed c) after s loose =
+      let p = stand_parts (cond_symbols c) (mark (codes ")") ∷ []) s in
+      opening d _ join cond_lexed d c (codes ")" ++ after) p.0 refl join closing d after
+  prim_lexed d (compared a rel _ b) after s loose =
       let p = stand_parts (ix_symbols a) (mark (rel_mark rel) ∷ ix_symbols b) s in
       ix_lexed d a _ p.0 refl join gap _ join between d (rel_mark rel) _ (rel_is_mark rel) join gap _ join ix_lexed d b after p.1 loose
+  prim_lexed d (divisible _ t by _ so) after s loose =
+      let p = stand_parts (term_symbols t) (mark (codes "%") ∷ number by ∷ mark (zero_mark so) ∷ number (codes "0") ∷ []) s in
+      let q = numeral_of_symbol by (mark (zero_mark so) ∷ number (codes "0") ∷ []) p.1 in
+      term_lexed d t _ p.0 refl join gap _ join between d (codes "%") _ remainder_mark join gap _ join numbered d by _ q.0 refl join gap _ join between d (zero_mark so) _ (zero_is_mark so) join gap _ join numbered d (codes "0") after (record { is = refl; small = refl }) loose
 
 -- ---- Values
 

@@ -7,11 +7,11 @@ use Rattle.affc_lex.specs.declared.piece.Spot.TheVariants.{Fresh, Inside, Direct
 use Rattle.affc_lex.specs.Pieces.{longer_mark, next_spot, prelude}
 use Rattle.affc_ast.specs.declared.tree.Op.{Op}
 use Rattle.affc_ast.specs.declared.tree.Op.TheVariants.{Add, Sub, Mul, And, Or, Xor}
-use Rattle.affc_grammar.specs.Grammar.{word, number, mark, bound_mark, assign_mark, StepText, then_up, up_then, up_by_one, LocalsText, no_locals, and_local, StmtsText, no_stmts, and_stmt, StmtText, simple, block, SimpleText, for_loop, if_all, assign, BodyText, braces, bare, ParamText, number_param, array_param, ParamsText, param, and_param, NamesText, one_array, and_array, DeclsText, no_decls, and_decl, FunctionText, IntText, line_feed as feed, text_end, PragmasText, no_pragmas, and_range, and_context, Text, ix_symbols, dims_symbols, dim_symbols, conds_symbols, value_symbols, step_symbols, locals_symbols, stmts_symbols, stmt_symbols, simple_symbols, body_symbols, const_symbols, param_symbols, params_symbols, names_symbols, decls_symbols, function_symbols, int_symbols, pragma_symbols, pragmas_symbols, include_symbols, prelude_symbols, text_symbols}
-use Rattle.affc_cprint.specs.Layout.{◌then◌, dims_layout, value_layout, indent, step_layout, locals_layout, stmts_layout, stmt_layout, simple_layout, body_layout, const_layout, param_layout, params_layout, names_layout, decls_layout, function_layout, int_layout, pragmas_layout, prelude_layout}
+use Rattle.affc_grammar.specs.Grammar.{word, number, mark, bound_mark, assign_mark, StepText, then_up, up_then, up_by_one, LocalsText, no_locals, and_local, StmtsText, no_stmts, and_stmt, StmtText, simple, block, SimpleText, for_loop, if_then, if_else, assign, BodyText, braces, bare, ParamText, number_param, array_param, ParamsText, param, and_param, NamesText, one_array, and_array, DeclsText, no_decls, and_decl, FunctionText, IntText, line_feed as feed, text_end, PragmasText, no_pragmas, and_range, and_context, Text, ix_symbols, dims_symbols, dim_symbols, cond_symbols, value_symbols, step_symbols, locals_symbols, stmts_symbols, stmt_symbols, simple_symbols, body_symbols, const_symbols, param_symbols, params_symbols, names_symbols, decls_symbols, function_symbols, int_symbols, pragma_symbols, pragmas_symbols, include_symbols, prelude_symbols, text_symbols}
+use Rattle.affc_cprint.specs.Layout.{◌then◌, dims_layout, value_layout, indent, step_layout, locals_layout, stmts_layout, stmt_layout, simple_layout, body_before_else, body_layout, const_layout, param_layout, params_layout, names_layout, decls_layout, function_layout, int_layout, pragmas_layout, prelude_layout}
 use Rattle.affc_cprint.proofs.Stretch.{Stretch, ◌join◌, nothing}
 use Rattle.affc_cprint.proofs.Spelled.{AllStand, stand_parts, Loose, IsName, name_of_symbol, numeral_of_symbol, lone, minus_before}
-use Rattle.affc_cprint.proofs.LexedExpressions.{token, space, line_feed, with_symbols, with_text, named, numbered, IsMark, marked, gap, between, opening, closing, bracket, bracket_end, comma, minus_mark, numeral_first, ix_lexed, dims_lexed, array_lexed, conds_lexed, value_lexed}
+use Rattle.affc_cprint.proofs.LexedExpressions.{token, space, line_feed, with_symbols, with_text, named, numbered, IsMark, marked, gap, between, opening, closing, bracket, bracket_end, comma, minus_mark, numeral_first, ix_lexed, dims_lexed, array_lexed, cond_lexed, value_lexed}
 
 -- ---- Marks of statements
 
@@ -54,6 +54,18 @@ block_brace after = record { pieces = token Mark (codes "{") ∷ line_feed ∷ [
 
 brace_end : (after : List ℕ) → Stretch Fresh (codes "}\n") (mark (codes "}") ∷ []) Fresh after
 brace_end after = record { pieces = token Mark (codes "}") ∷ line_feed ∷ []; spelled = refl; standing = rw (lone 125 refl refl refl (10 ∷ after)) refl; leads = refl; its_symbols = refl; calm = λ rest h. h }
+
+-- `} ` before the word `else`
+brace_before : (after : List ℕ) → Stretch Fresh (codes "} ") (mark (codes "}") ∷ []) Inside after
+brace_before after = record { pieces = token Mark (codes "}") ∷ space ∷ []; spelled = refl; standing = rw (lone 125 refl refl refl (32 ∷ after)) refl; leads = refl; its_symbols = refl; calm = λ rest h. h }
+
+else_name : IsName (codes "else")
+else_name = record { is = refl; other = refl }
+
+-- a body begins with a space
+body_loose : {prelude dangles : Bool} (level : ℕ) (c : BodyText prelude dangles) (after : List ℕ) → Loose (body_layout level c ++ after)
+body_loose level (braces ss) after = refl
+body_loose level (bare x) after = refl
 
 indented : (level : ℕ) (after : List ℕ) → Stretch Fresh (indent level) [] Fresh after
 indented zero after = nothing after
@@ -122,7 +134,7 @@ mutual
       let q = stand_parts (stmts_symbols ss) (mark (codes "}") ∷ []) p.1 in
       block_brace _ join locals_lexed (suc level) ls _ p.0 join stmts_lexed (suc level) ss _ q.0 join indented level _ join brace_end after
 
-  simple_lexed : {prelude : Bool} (is_fresh : Bool) (level : ℕ) (c : SimpleText prelude) (after : List ℕ) → AllStand (simple_symbols c) → Stretch (start is_fresh) (simple_layout level c) (simple_symbols c) Fresh after
+  simple_lexed : {prelude dangles : Bool} (is_fresh : Bool) (level : ℕ) (c : SimpleText prelude dangles) (after : List ℕ) → AllStand (simple_symbols c) → Stretch (start is_fresh) (simple_layout level c) (simple_symbols c) Fresh after
   simple_lexed is_fresh level (for_loop iterator low tested strict high step body) after s =
       let n = name_of_symbol iterator (mark (codes "=") ∷ (ix_symbols low ++ mark (codes ";") ∷ word tested ∷ mark (bound_mark strict) ∷ (ix_symbols high ++ mark (codes ";") ∷ (step_symbols step ++ mark (codes ")") ∷ body_symbols body)))) s in
       let p = stand_parts (ix_symbols low) (mark (codes ";") ∷ word tested ∷ mark (bound_mark strict) ∷ (ix_symbols high ++ mark (codes ";") ∷ (step_symbols step ++ mark (codes ")") ∷ body_symbols body))) n.1 in
@@ -131,16 +143,30 @@ mutual
       let r = stand_parts (step_symbols step) (mark (codes ")") ∷ body_symbols body) q.1 in
       for_head is_fresh _ join named iterator _ n.0 refl refl join equals _ join ix_lexed false low _ p.0 refl join semicolon _ join named tested _ m.0 refl refl join gap _ join between false (bound_mark strict) _ (bound_is_mark strict) join gap _
       join ix_lexed false high _ q.0 refl join semicolon _ join step_lexed step _ r.0 join closing false _ join body_lexed level body after r.1
-  simple_lexed is_fresh level (if_all cs body) after s =
-      let p = stand_parts (conds_symbols cs) (mark (codes ")") ∷ body_symbols body) s in
-      if_head is_fresh _ join conds_lexed false cs _ p.0 refl join closing false _ join body_lexed level body after p.1
+  simple_lexed is_fresh level (if_then c body) after s =
+      let p = stand_parts (cond_symbols c) (mark (codes ")") ∷ body_symbols body) s in
+      if_head is_fresh _ join cond_lexed false c _ p.0 refl join closing false _ join body_lexed level body after p.1
+  simple_lexed is_fresh level (if_else c body other) after s =
+      let p = stand_parts (cond_symbols c) (mark (codes ")") ∷ (body_symbols body ++ word (codes "else") ∷ body_symbols other)) s in
+      let q = stand_parts (body_symbols body) (word (codes "else") ∷ body_symbols other) p.1 in
+      if_head is_fresh _ join cond_lexed false c _ p.0 refl join closing false _
+      join with_symbols ((body_symbols body ++ word (codes "else") ∷ []) ++ body_symbols other) (body_symbols body ++ word (codes "else") ∷ body_symbols other) (append_assoc (body_symbols body) (word (codes "else") ∷ []) (body_symbols other))
+      (before_else_lexed level body (body_layout level other ++ after) q.0 (body_loose level other after) join body_lexed level other after q.1)
   simple_lexed is_fresh level (assign w subs op v) after s =
       let p = stand_parts (word w ∷ dims_symbols subs) (mark (assign_mark op) ∷ (value_symbols v ++ mark (codes ";") ∷ [])) s in
       let q = stand_parts (value_symbols v) (mark (codes ";") ∷ []) p.1 in
       with_text ((w then dims_layout subs) then codes " " then assign_mark op then codes " " then value_layout v then codes ";\n") (simple_layout level (assign w subs op v)) (append_assoc w (dims_layout subs) (codes " " then assign_mark op then codes " " then value_layout v then codes ";\n"))
       (array_lexed w subs _ p.0 refl (name_starts is_fresh w) join gap _ join between false (assign_mark op) _ (assign_is_mark op) join gap _ join value_lexed v (codes ";\n" ++ after) q.0 refl join ended after)
 
-  body_lexed : {prelude : Bool} (level : ℕ) (c : BodyText prelude) (after : List ℕ) → AllStand (body_symbols c) → Stretch Inside (body_layout level c) (body_symbols c) Fresh after
+  before_else_lexed : {prelude dangles : Bool} (level : ℕ) (c : BodyText prelude dangles) (after : List ℕ) → AllStand (body_symbols c) → Loose after → Stretch Inside (body_before_else level c) (body_symbols c ++ word (codes "else") ∷ []) Inside after
+  before_else_lexed level (braces ss) after s loose =
+      let p = stand_parts (stmts_symbols ss) (mark (codes "}") ∷ []) s in
+      with_symbols (mark (codes "{") ∷ (stmts_symbols ss ++ mark (codes "}") ∷ word (codes "else") ∷ [])) (body_symbols (braces ss) ++ word (codes "else") ∷ [])
+      (ap (λ l. mark (codes "{") ∷ l) (sym (append_assoc (stmts_symbols ss) (mark (codes "}") ∷ []) (word (codes "else") ∷ []))))
+      (brace _ join stmts_lexed (suc level) ss _ p.0 join indented level _ join brace_before _ join named (codes "else") after else_name loose refl)
+  before_else_lexed level (bare x) after s loose = gap _ join simple_lexed false level x _ s join indented level _ join named (codes "else") after else_name loose refl
+
+  body_lexed : {prelude dangles : Bool} (level : ℕ) (c : BodyText prelude dangles) (after : List ℕ) → AllStand (body_symbols c) → Stretch Inside (body_layout level c) (body_symbols c) Fresh after
   body_lexed level (braces ss) after s =
       let p = stand_parts (stmts_symbols ss) (mark (codes "}") ∷ []) s in
       brace _ join stmts_lexed (suc level) ss _ p.0 join indented level _ join brace_end after
@@ -225,7 +251,7 @@ int_lexed i after s loose = of i.negative s
 abbrev pub LinesStand : PragmasText → Type 0
 LinesStand no_pragmas = Unit {0}
 LinesStand (and_range ps w low high line) = LinesStand ps × (line ≡ feed) × AllStand (word w ∷ (int_symbols low ++ int_symbols high))
-LinesStand (and_context ps cs line) = LinesStand ps × (line ≡ feed) × AllStand (conds_symbols cs)
+LinesStand (and_context ps cs line) = LinesStand ps × (line ≡ feed) × AllStand (cond_symbols cs)
 
 line_lexed : (after : List ℕ) → Stretch Directive (codes "\n") (record { kind = LineEnd; bytes = codes "\n" } ∷ []) Fresh after
 line_lexed after = record { pieces = token LineEnd (codes "\n") ∷ []; spelled = refl; standing = refl; leads = refl; its_symbols = refl; calm = λ rest h. h }
@@ -259,7 +285,7 @@ pragmas_lexed (and_range ps w low high feed) after s =
     pragmas_lexed ps _ s.0 join range_head _ join named w _ n.0 refl refl join gap _ join int_lexed low _ q.0 refl join gap _ join int_lexed high (codes "\n" ++ after) q.1 refl join line_lexed after
 pragmas_lexed (and_context ps cs text_end) after s = absurd (cc)
 pragmas_lexed (and_context ps cs feed) after s =
-    pragmas_lexed ps _ s.0 join context_head _ join conds_lexed true cs (codes "\n" ++ after) s.2 refl join line_lexed after
+    pragmas_lexed ps _ s.0 join context_head _ join cond_lexed true cs (codes "\n" ++ after) s.2 refl join line_lexed after
 
 include_lexed : (after : List ℕ) → Stretch Fresh (codes "#include <stdint.h>\n") (include_symbols feed) Fresh after
 include_lexed after = record {

@@ -6,6 +6,7 @@ pub mod ReadBack
 pub mod Sees
 pub mod Visible
 pub mod Chains
+pub mod Joined
 pub mod Levels
 pub mod Arms
 pub mod Programs
@@ -15,6 +16,7 @@ pub mod LexedExpressions
 pub mod LexedPrograms
 pub mod Lexed
 pub mod ReadBackValues
+pub mod ReadBackConditions
 pub mod ReadBackStatements
 pub mod ReadBackParams
 pub mod ReadBackTexts

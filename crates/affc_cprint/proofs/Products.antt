@@ -1,10 +1,11 @@
 -- Products of names: a text has one where the tree that it is read as has one.
-use Rattle.std.proofs.Common.{◌≡◌, ℕ, ◌<◌, ◌&&◌, ◌||◌, Bool, true, false, not, nat_lt, List, [], ◌∷◌, ◌++◌, map, length, Option, Some, None, Ok, pos, ℤ, refl, sym, ap, subst, ◌∙◌, arith}
+use Rattle.std.proofs.Common.{◌≡◌, ℕ, ◌<◌, ◌&&◌, ◌||◌, Bool, true, false, not, nat_lt, List, [], ◌∷◌, ◌++◌, map, length, Option, Some, None, Ok, pos, ℤ, refl, sym, ap, subst, ◌∙◌, arith, append_assoc}
 use Rattle.std.proofs.lemmas.Bool.{false≢true, lt-ltb}
 use Rattle.std.proofs.lemmas.List.Folds.{list_all-append}
 use Rattle.std.specs.List.{list_all, flat_map}
 use Rattle.affc_ast.specs.declared.tree.Ix.{Ix}
 use Rattle.affc_ast.specs.declared.tree.Compare.{Compare}
+use Rattle.affc_ast.specs.declared.tree.Cond.{Cond}
 use Rattle.affc_ast.specs.declared.tree.Local.{Local}
 use Rattle.affc_ast.specs.declared.tree.Val.{Val}
 use Rattle.affc_ast.specs.declared.tree.Stmt.{Stmt}
@@ -12,12 +13,13 @@ use Rattle.affc_ast.specs.declared.tree.Stmt.TheVariants.{For}
 use Rattle.affc_ast.specs.declared.tree.Decl.{Decl}
 use Rattle.affc_ast.specs.declared.tree.Param.{Param}
 use Rattle.affc_ast.specs.declared.tree.Program.{Program}
-use Rattle.affc_ast.specs.Recursion.{by_stmt}
+use Rattle.affc_ast.specs.Recursion.{by_cond, by_stmt}
+use Rattle.affc_ast.proofs.Steps.{all_here, any_here}
 use Rattle.affc_grammar.specs.Grammar.{Name, Choice, minimum, maximum, remainder, Rounding, down, up}
-use Rattle.affc_grammar.specs.Draft.{IxDraft, literal, name, negated, sum, difference, product, grouped, chosen, divided, CompareDraft, ValueDraft, load, constant, cast, complement, binary, shift, LocalDraft, StmtsDraft, no_stmts, and_stmt, StmtDraft, for_loop, if_all, assign, block, DeclDraft, ParamDraft, number_param, array_param, PragmaDraft, range, context, TextDraft}
-use Rattle.affc_grammar.specs.Names.{Scope, each, number_named, array_named, why_declared, why_repeated, with_number, ix_tree, compare_tree, value_tree, locals_tree, head_tree, stmts_tree, stmt_tree, choice_tree, rounding_tree, thing_of, why_ranged, decl_tree, number_tree, range_of, param_tree, params_tree, temps_tree, with_param, with_array, pragmas_tree, program_tree}
-use Rattle.affc_grammar.specs.Limits.{at_if, sides, value_texts, stmts_texts, stmt_texts, pragma_texts, param_texts, affine_texts, names_in, holds_names, products_in, products_of_names, literals_past, wide_limits}
-use Rattle.affc_cprint.specs.Forms.{is_none, Form, is_within, both, product as product_form, quotient, form_step, form, compare_passes, value_step, value_passes, local_passes, stmt_step, stmt_passes, decl_passes, param_passes, program_passes}
+use Rattle.affc_grammar.specs.Draft.{IxDraft, literal, name, negated, sum, difference, product, grouped, chosen, divided, CompareDraft, CondsDraft, no_conds, and_cond, CondDraft, comparison, divisible, all_of, any_of, ValueDraft, load, constant, cast, complement, binary, shift, LocalDraft, StmtsDraft, no_stmts, and_stmt, StmtDraft, for_loop, if_cond, assign, block, DeclDraft, ParamDraft, number_param, array_param, PragmaDraft, range, context, TextDraft}
+use Rattle.affc_grammar.specs.Names.{Scope, each, number_named, array_named, why_declared, why_repeated, with_number, ix_tree, compare_tree, conds_tree, cond_tree, value_tree, locals_tree, head_tree, stmts_tree, stmt_tree, choice_tree, rounding_tree, thing_of, why_ranged, decl_tree, number_tree, range_of, param_tree, params_tree, temps_tree, with_param, with_array, pragmas_tree, program_tree}
+use Rattle.affc_grammar.specs.Limits.{at_if, sides, conds_texts, cond_texts, value_texts, stmts_texts, stmt_texts, pragma_texts, param_texts, affine_texts, names_in, holds_names, products_in, products_of_names, literals_past, wide_limits}
+use Rattle.affc_cprint.specs.Forms.{is_none, Form, is_within, both, product as product_form, quotient, form_step, form, compare_passes, cond_step, cond_passes, value_step, value_passes, local_passes, stmt_step, stmt_passes, decl_passes, param_passes, program_passes}
 use Rattle.affc_cprint.proofs.Nodes.{neg_here, add_here, sub_here, mul_here, min_here, max_here, mod_here, floord_here, ceild_here}
 use Rattle.affc_cprint.proofs.Arms.{for_here, if_here, block_here}
 use Rattle.affc_cprint.proofs.Sees.{ok_of, both_ok, allowed_ok}
@@ -41,7 +43,7 @@ some_append : {A : Type 0} (xs ys : List A) → nat_lt 0 (length (xs ++ ys)) ≡
 some_append [] ys = refl
 some_append (x ∷ xs) ys = some_places x (xs ++ ys) ∙ ap (λ b. b || nat_lt 0 (length ys)) (sym (some_places x xs))
 
-none_if : (b : Bool) (at : ℕ) → is_none (at_if b at) ≡ not b
+pub none_if : (b : Bool) (at : ℕ) → is_none (at_if b at) ≡ not b
 none_if true at = refl
 none_if false at = refl
 
@@ -185,6 +187,39 @@ module _ (places : IxDraft → List ℕ) (test : Ix → Bool) (same : (scope : S
       let p = both_ok (value_tree scope a) _ v e in
       value_same scope a p.0 p.1 ∙ sym (shift_here (value_step test) left p.0 by) ∙ ap (value_passes test) (ok_of p.2)
 
+  -- ---- Conditions
+
+  entries_same : (xs : List Cond) → list_all (cond_passes test) xs ≡ list_all (λ b. b) (map (by_cond (cond_step test)) xs)
+  entries_same [] = refl
+  entries_same (x ∷ xs) = ap (λ b. cond_passes test x && b) (entries_same xs)
+
+  mutual
+    conds_same : (scope : Scope) (d : CondsDraft) (xs : List Cond) → conds_tree scope d ≡ Ok xs → all_clear (conds_texts d) ≡ list_all (cond_passes test) xs
+    conds_same scope no_conds xs e = ap (list_all (cond_passes test)) (ok_of e)
+    conds_same scope (and_cond cs c) xs e =
+        let p = both_ok (conds_tree scope cs) _ xs e in
+        let q = both_ok (cond_tree scope c) _ xs p.2 in
+        clear_append (conds_texts cs) (cond_texts c) ∙ ap (λ b. b && all_clear (cond_texts c)) (conds_same scope cs p.0 p.1) ∙ ap (λ b. list_all (cond_passes test) p.0 && b) (cond_same scope c q.0 q.1 ∙ sym (and_true (cond_passes test q.0)))
+        ∙ sym (list_all-append (cond_passes test) p.0 (q.0 ∷ [])) ∙ ap (list_all (cond_passes test)) (ok_of q.2)
+
+    cond_same : (scope : Scope) (d : CondDraft) (x : Cond) → cond_tree scope d ≡ Ok x → all_clear (cond_texts d) ≡ cond_passes test x
+    cond_same scope (comparison c) x e =
+        let l = both_ok (ix_tree scope c.left) _ x e in
+        let r = both_ok (ix_tree scope c.right) _ x l.2 in
+        sides_clear c ∙ ap (λ b. b && clear c.right) (same scope c.left l.0 l.1) ∙ ap (λ b. test l.0 && b) (same scope c.right r.0 r.1) ∙ ap (cond_passes test) (ok_of r.2)
+    cond_same scope (divisible a by_at by so) x e =
+        let p = both_ok (ix_tree scope a) _ x e in
+        and_true (clear a) ∙ same scope a p.0 p.1 ∙ ap (cond_passes test) (ok_of p.2)
+    cond_same scope (all_of cs) x e =
+        let p = both_ok (conds_tree scope cs) _ x e in
+        conds_same scope cs p.0 p.1 ∙ entries_same p.0 ∙ sym (all_here (cond_step test) p.0) ∙ ap (cond_passes test) (ok_of p.2)
+    cond_same scope (any_of cs) x e =
+        let p = both_ok (conds_tree scope cs) _ x e in
+        conds_same scope cs p.0 p.1 ∙ entries_same p.0 ∙ sym (any_here (cond_step test) p.0) ∙ ap (cond_passes test) (ok_of p.2)
+
+  branches_clear : (a b c : List IxDraft) → all_clear (a ++ b ++ c) ≡ (all_clear a && (all_clear b && all_clear c))
+  branches_clear a b c = ap all_clear (append_assoc a b c) ∙ clear_append a (b ++ c) ∙ ap (λ x. all_clear a && x) (clear_append b c)
+
   -- ---- Statements
 
   body_same : (body : List Stmt) → list_all (stmt_passes test) body ≡ list_all (λ b. b) (map (by_stmt (stmt_step test)) body)
@@ -223,11 +258,13 @@ module _ (places : IxDraft → List ℕ) (test : Ix → Bool) (same : (scope : S
         ∙ ap (λ z. test l.0 && (z && all_clear (stmts_texts body))) (same scope h.high u.0 u.1)
         ∙ ap (λ z. test l.0 && (test u.0 && z)) (stmts_same (with_number true scope h.iterator.name) body q.0 q.1 ∙ body_same q.0)
         ∙ sym (for_here (stmt_step test) h.iterator.name l.0 h.rel u.0 q.0) ∙ ap (λ t. stmt_passes test (For h.iterator.name t.0 h.rel t.1 q.0)) bounds ∙ ap (stmt_passes test) (ok_of q.2)
-    stmt_same scope (if_all at cs body) x e =
-        let p = both_ok (each (compare_tree scope) cs) _ x e in
+    stmt_same scope (if_cond at c body other) x e =
+        let p = both_ok (cond_tree scope c) _ x e in
         let q = both_ok (stmts_tree scope body) _ x p.2 in
-        clear_append (flat_map sides cs) (stmts_texts body) ∙ ap (λ b. b && all_clear (stmts_texts body)) (compares_same scope cs p.0 p.1) ∙ ap (λ b. list_all (compare_passes test) p.0 && b) (stmts_same scope body q.0 q.1 ∙ body_same q.0)
-        ∙ sym (if_here (stmt_step test) p.0 q.0) ∙ ap (stmt_passes test) (ok_of q.2)
+        let r = both_ok (stmts_tree scope other) _ x q.2 in
+        branches_clear (cond_texts c) (stmts_texts body) (stmts_texts other) ∙ ap (λ b. b && (all_clear (stmts_texts body) && all_clear (stmts_texts other))) (cond_same scope c p.0 p.1)
+        ∙ ap (λ b. cond_passes test p.0 && (b && all_clear (stmts_texts other))) (stmts_same scope body q.0 q.1 ∙ body_same q.0) ∙ ap (λ b. cond_passes test p.0 && (list_all (λ b. b) (map (by_stmt (stmt_step test)) q.0) && b)) (stmts_same scope other r.0 r.1 ∙ body_same r.0)
+        ∙ sym (if_here (stmt_step test) p.0 q.0 r.0) ∙ ap (stmt_passes test) (ok_of r.2)
     stmt_same scope (assign w subs op v) x e =
         let p = both_ok (array_named scope w.at w.name true (length subs)) _ x e in
         let q = both_ok (each (ix_tree scope) subs) _ x p.2 in

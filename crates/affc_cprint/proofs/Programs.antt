@@ -10,10 +10,10 @@ use Rattle.affc_ast.specs.declared.tree.Param.{Param}
 use Rattle.affc_ast.specs.declared.tree.Param.TheVariants.{Number, Array}
 use Rattle.affc_ast.specs.declared.tree.Program.{Program}
 use Rattle.affc_grammar.specs.Grammar.{Name, ParamsText, param, and_param, DeclsText, no_decls, and_decl, one_array, PragmasText, no_pragmas, and_range, line_feed, no_stmts}
-use Rattle.affc_grammar.specs.Printed.{Names, no_names, and_param_name, and_array_name, and_number, param_text, and_params, params_text, dims_text, decls_text, int_text, ranges_text, context_text, conds_text, function_text, stmts_text, stmt_text, array_text, ix_text, is_input}
+use Rattle.affc_grammar.specs.Printed.{Names, no_names, and_param_name, and_array_name, and_number, param_text, and_params, params_text, dims_text, decls_text, int_text, ranges_text, context_text, function_text, stmts_text, stmt_text, array_text, ix_text, is_input}
 use Rattle.affc_cprint.specs.Adds.{Adds}
-use Rattle.affc_cprint.specs.Layout.{◌then◌, params_layout, param_layout, decls_layout, pragmas_layout, int_layout, conds_layout, prelude_layout, function_layout, pragmas_of, printed_text, stmts_layout, const_layout, ix_layout}
-use Rattle.affc_cprint.specs.Statements.{dim_added, local_added, locals_added, with_locals, line_added}
+use Rattle.affc_cprint.specs.Layout.{◌then◌, params_layout, param_layout, decls_layout, pragmas_layout, int_layout, prelude_layout, function_layout, pragmas_of, printed_text, stmts_layout, const_layout, ix_layout}
+use Rattle.affc_cprint.specs.Statements.{dim_added, local_added, locals_added, with_locals, line_added, tests_added}
 use Rattle.affc_cprint.specs.Programs.{range_added, context_added, params_added, with_param_names, decls_added, with_array_names, function_head, function_added}
 use Rattle.affc_cprint.proofs.Chains.{dims_are}
 use Rattle.affc_cprint.proofs.Arms.{lines_are}
@@ -183,9 +183,9 @@ pub range_pieces : (w : Name) (low high : ℤ)
 range_pieces w low high = sym (append_assoc (codes "#pragma affc param ") w (codes " " then int_layout (int_text low) then codes " " then int_layout (int_text high) then codes "\n"))
 
 pub context_pieces : (names : Names) (cs : List Compare) → 1 ≤ length cs
-    → context_added names cs ≡ (codes "#pragma affc context " ++ conds_layout (conds_text true names cs)) ++ codes "\n"
+    → context_added names cs ≡ (codes "#pragma affc context " ++ tests_added names cs) ++ codes "\n"
 context_pieces names [] some = absurd (omega arith)
-context_pieces names (c ∷ cs) some = sym (append_assoc (codes "#pragma affc context ") (conds_layout (conds_text true names (c ∷ cs))) (codes "\n"))
+context_pieces names (c ∷ cs) some = sym (append_assoc (codes "#pragma affc context ") (tests_added names (c ∷ cs)) (codes "\n"))
 
 -- the first parameter, and a loop over the others
 pub params_end : {o0 o1 o2 : List ℕ} (prelude : Bool) (ps rest : List Param) (x : Param) (n n1 n2 : Names) (i : ℕ) → n ≡ no_names → ps ≡ x ∷ rest → length rest ≤ i

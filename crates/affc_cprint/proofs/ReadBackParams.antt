@@ -9,7 +9,7 @@ use Rattle.affc_ast.specs.declared.tree.Param.{Param}
 use Rattle.affc_ast.specs.declared.tree.Param.TheVariants.{Number, Array}
 use Rattle.affc_grammar.specs.Grammar.{Name, word, number as number_symbol, mark, ParamText, number_param, array_param, ParamsText, param, and_param, IntText, DimsText, IxText, ix_symbols, dims_symbols, dim_symbols, const_symbols, param_symbols, params_symbols, int_symbols}
 use Rattle.affc_grammar.specs.Draft as draft
-use Rattle.affc_grammar.specs.Draft.{ParamDraft, DeclDraft, PragmaDraft, word_draft, ix_draft, dims_draft, conds_draft, param_draft, params_draft, temp_draft, names_draft, decls_draft, int_value, pragmas_draft, array_role}
+use Rattle.affc_grammar.specs.Draft.{ParamDraft, DeclDraft, PragmaDraft, word_draft, ix_draft, dims_draft, param_draft, params_draft, temp_draft, names_draft, decls_draft, int_value, pragmas_draft, array_role}
 use Rattle.affc_grammar.specs.Names.{Thing, Scope, each, thing_of, why_declared, with_number, with_array, ix_tree, decl_tree, number_tree, range_of, param_tree, params_tree, with_param, with_params}
 use Rattle.affc_grammar.specs.Printed.{Names, no_names, and_number, and_array_name, and_param_name, ix_text, dims_text, is_input, array_text, param_text, and_params, params_text, int_text}
 use Rattle.affc_cprint.specs.Programs.{with_param_names}

@@ -4,7 +4,7 @@ use Rattle.std.proofs.lemmas.List.{append-nil}
 use Rattle.affc_lex.specs.Pieces.{is_word}
 use Rattle.affc_ast.specs.declared.tree.ArrayId.{ArrayId}
 use Rattle.affc_ast.specs.declared.tree.Ix.{Ix}
-use Rattle.affc_ast.specs.declared.tree.Compare.{Compare}
+use Rattle.affc_ast.specs.declared.tree.Cond.{Cond}
 use Rattle.affc_ast.specs.declared.tree.Local.{Local}
 use Rattle.affc_ast.specs.declared.tree.Op.{Op}
 use Rattle.affc_ast.specs.declared.tree.Rel.{Rel}
@@ -12,16 +12,17 @@ use Rattle.affc_ast.specs.declared.tree.Stmt.{Stmt}
 use Rattle.affc_ast.specs.declared.tree.Stmt.TheVariants.{For, If, Assign, Block}
 use Rattle.affc_ast.specs.declared.tree.Val.{Val}
 use Rattle.affc_ast.specs.Recursion.{by_ix}
-use Rattle.affc_grammar.specs.Grammar.{Name, word, mark, bound_mark, assign_mark, then_up, LocalsText, no_locals, and_local, StmtsText, no_stmts, and_stmt, StmtText, simple, block, SimpleText, for_loop, if_all, assign, BodyText, braces, bare, ix_symbols, dims_symbols, conds_symbols, value_symbols, step_symbols, locals_symbols, stmts_symbols, stmt_symbols, simple_symbols, body_symbols}
-use Rattle.affc_grammar.specs.Draft.{LocalDraft, ix_draft, dims_draft, conds_draft, value_draft, locals_draft, head_draft, head_length, bound_rel, stmts_draft, stmt_draft, simple_draft, body_draft}
-use Rattle.affc_grammar.specs.Names.{Scope, each, why_declared, why_repeated, with_number, array_named, ix_tree, compare_tree, value_tree, locals_tree, head_tree, stmts_tree, stmt_tree}
-use Rattle.affc_grammar.specs.Printed.{Names, array_name, and_number, ix_step, ix_text, dims_text, conds_text, value_text, is_less, locals_text, stmts_text, stmt_step, stmt_text}
+use Rattle.affc_grammar.specs.Grammar.{Name, word, mark, bound_mark, assign_mark, then_up, LocalsText, no_locals, and_local, StmtsText, no_stmts, and_stmt, StmtText, simple, block, SimpleText, for_loop, if_then, if_else, assign, BodyText, braces, bare, ix_symbols, dims_symbols, cond_symbols, value_symbols, step_symbols, locals_symbols, stmts_symbols, stmt_symbols, simple_symbols, body_symbols}
+use Rattle.affc_grammar.specs.Draft.{LocalDraft, ix_draft, dims_draft, cond_draft, value_draft, locals_draft, head_draft, head_length, bound_rel, stmts_draft, stmt_draft, simple_draft, body_draft}
+use Rattle.affc_grammar.specs.Names.{Scope, each, why_declared, why_repeated, with_number, array_named, ix_tree, cond_tree, value_tree, locals_tree, head_tree, stmts_tree, stmt_tree}
+use Rattle.affc_grammar.specs.Printed.{Names, array_name, and_number, ix_step, ix_text, dims_text, cond_text, value_text, is_less, locals_text, stmts_text, stmt_step, stmt_text}
 use Rattle.affc_cprint.specs.Statements.{with_locals}
 use Rattle.affc_cprint.proofs.Spelled.{AllHave, AllStand, have_parts, stand_both, IsName, symbol_of_name}
 use Rattle.affc_cprint.proofs.Sees.{ok_of, both_ok, then_is, allowed_ok, allowed_is, same_self, declared_none, not_static, Sees, sees_number, array_back}
 use Rattle.affc_cprint.proofs.Arms.{for_here, if_here, block_here}
 use Rattle.affc_cprint.proofs.ReadBack.{Back, word_of_symbol, ix_back}
-use Rattle.affc_cprint.proofs.ReadBackValues.{Each, each_append, each_length, ReadsValue, dims_back, dims_again, DimsBack, conds_back, conds_again, CondsBack, value_back}
+use Rattle.affc_cprint.proofs.ReadBackValues.{Each, each_append, each_length, ReadsValue, dims_back, dims_again, DimsBack, value_back}
+use Rattle.affc_cprint.proofs.ReadBackConditions.{IsCondBack, cond_back}
 
 -- what is printed for the expression reads as it
 abbrev pub IxBack : (prelude : Bool) → Scope → Names → Ix → Type 0
@@ -215,15 +216,30 @@ for_again prelude scope names iter low rel high body strict declared name bl bh 
           (symbol_of_name iter (mark (codes "++") ∷ mark (codes ")") ∷ body_symbols (braces bt)) name (stand_both (stmts_symbols bt) (mark (codes "}") ∷ []) b.stands refl)))));
     })
 
-pub if_again : (prelude : Bool) (scope : Scope) (names : Names) (sees : Sees scope names) (cs : List Compare) (body : List Stmt) → CondsBack prelude scope names sees (conds_text prelude names cs) cs → Each (StmtBack prelude scope names) body
-    → StmtBack prelude scope names (If cs body)
-if_again prelude scope names sees cs body c bs =
-    let ct = conds_text prelude names cs in
+pub if_again : (prelude : Bool) (scope : Scope) (names : Names) (x : Cond) (body other : List Stmt) → IsCondBack prelude scope names x → Each (StmtBack prelude scope names) body → Each (StmtBack prelude scope names) other
+    → StmtBack prelude scope names (If x body other)
+if_again prelude scope names x body [] c bs os =
+    let ct = cond_text prelude names x in
     let bt = stmts_text names no_stmts (map (stmt_text prelude) body) in
     let b = stmts_again scope names body bs in
-    subst (λ (g : Names → StmtText prelude). StmtPrinted (g names) scope (If cs body)) (sym (if_here (stmt_step prelude) cs body)) (record {
-      reads = λ at. then_is (each (compare_tree scope) (conds_draft (at + 2) ct)) _ cs _ (c.reads _) (then_is (stmts_tree scope (stmts_draft (at + 2 + length (conds_symbols ct) + 1 + 1) bt)) _ body _ (b.reads _) refl);
-      stands = stand_both (conds_symbols ct) (mark (codes ")") ∷ body_symbols (braces bt)) c.stands (stand_both (stmts_symbols bt) (mark (codes "}") ∷ []) b.stands refl);
+    subst (λ (g : Names → StmtText prelude). StmtPrinted (g names) scope (If x body [])) (sym (if_here (stmt_step prelude) x body [])) (record {
+      reads = λ at. then_is (cond_tree scope (cond_draft (at + 2) ct)) _ x _ (c.whole _) (then_is (stmts_tree scope (stmts_draft (at + 2 + length (cond_symbols ct) + 1 + 1) bt)) _ body _ (b.reads _) refl);
+      stands = stand_both (cond_symbols ct) (mark (codes ")") ∷ body_symbols (braces bt)) c.whole_stands (stand_both (stmts_symbols bt) (mark (codes "}") ∷ []) b.stands refl);
+    })
+if_again prelude scope names x body (y ∷ ys) c bs os =
+    let ct = cond_text prelude names x in
+    let bt = stmts_text names no_stmts (map (stmt_text prelude) body) in
+    let ot = stmts_text names no_stmts (map (stmt_text prelude) (y ∷ ys)) in
+    let b = stmts_again scope names body bs in
+    let o = stmts_again scope names (y ∷ ys) os in
+    subst (λ (g : Names → StmtText prelude). StmtPrinted (g names) scope (If x body (y ∷ ys))) (sym (if_here (stmt_step prelude) x body (y ∷ ys))) (record {
+      reads = λ at.
+          let body_at = at + 2 + length (cond_symbols ct) + 1 in
+          then_is (cond_tree scope (cond_draft (at + 2) ct)) _ x _ (c.whole _) (then_is (stmts_tree scope (stmts_draft (body_at + 1) bt)) _ body _ (b.reads _)
+          (then_is (stmts_tree scope (stmts_draft (body_at + length (body_symbols (braces bt)) + 1 + 1) ot)) _ (y ∷ ys) _ (o.reads _) refl));
+      stands = stand_both (cond_symbols ct) (mark (codes ")") ∷ (body_symbols (braces bt) ++ word (codes "else") ∷ body_symbols (braces ot))) c.whole_stands
+          (stand_both (stmts_symbols bt ++ mark (codes "}") ∷ []) (word (codes "else") ∷ body_symbols (braces ot)) (stand_both (stmts_symbols bt) (mark (codes "}") ∷ []) b.stands refl)
+          (stand_both (stmts_symbols ot) (mark (codes "}") ∷ []) o.stands refl));
     })
 
 pub block_again : (prelude : Bool) (scope : Scope) (names : Names) (ls : List Local) (body : List Stmt) → LocalsBack prelude scope names ls → (ls ≡ []) ⊎ (prelude ≡ true)
@@ -275,7 +291,7 @@ mutual
       subst (StmtBack prelude scope names) (ok_of q.2) (block_again prelude scope names p.0.0 q.0 l.back l.allowed_here
       (stmts_back ss g.0 (scope_after scope p.0.0) (with_locals names p.0.0) (sees_after scope names p.0.0 sees) (at + 1 + length (locals_symbols ls)) q.0 body))
 
-  simple_back : {prelude : Bool} (c : SimpleText prelude) → AllHave (simple_symbols c) → (scope : Scope) (names : Names) → Sees scope names → (at : ℕ) (x : Stmt) → stmt_tree scope (simple_draft at c) ≡ Ok x → StmtBack prelude scope names x
+  simple_back : {prelude dangles : Bool} (c : SimpleText prelude dangles) → AllHave (simple_symbols c) → (scope : Scope) (names : Names) → Sees scope names → (at : ℕ) (x : Stmt) → stmt_tree scope (simple_draft at c) ≡ Ok x → StmtBack prelude scope names x
   simple_back {prelude = prelude} (for_loop iterator low tested strict high step body) have scope names sees at x e =
       let n = word_of_symbol iterator (mark (codes "=") ∷ (ix_symbols low ++ mark (codes ";") ∷ word tested ∷ mark (bound_mark strict) ∷ (ix_symbols high ++ mark (codes ";") ∷ (step_symbols step ++ mark (codes ")") ∷ body_symbols body)))) have in
       let hl = have_parts (ix_symbols low) (mark (codes ";") ∷ word tested ∷ mark (bound_mark strict) ∷ (ix_symbols high ++ mark (codes ";") ∷ (step_symbols step ++ mark (codes ")") ∷ body_symbols body))) n.1 in
@@ -295,13 +311,22 @@ mutual
       (for_again prelude scope names iterator l.0 (bound_rel strict) u.0 q.0 strict a.0 (declared_name scope true iterator a.0 n.0)
       (ix_back prelude scope names sees low hl.0 _ l.0 l.1) (ix_back prelude scope names sees high hh.0 _ u.0 u.1) refl
       (body_back body hs.1 (with_number true scope iterator) (and_number names iterator) (sees_number true scope names iterator sees) (at + head_length low high step) q.0 q.1))
-  simple_back {prelude = prelude} (if_all cs body) have scope names sees at x e =
-      let h = have_parts (conds_symbols cs) (mark (codes ")") ∷ body_symbols body) have in
-      let p = both_ok (each (compare_tree scope) (conds_draft (at + 2) cs)) _ x e in
-      let q = both_ok (stmts_tree scope (body_draft (at + 2 + length (conds_symbols cs) + 1) body)) _ x p.2 in
-      let c = conds_back prelude scope names sees cs h.0 (at + 2) p.0 p.1 in
-      subst (StmtBack prelude scope names) (ok_of q.2) (if_again prelude scope names sees p.0 q.0 (conds_again prelude scope names sees p.0 c.0 c.1)
-      (body_back body h.1 scope names sees (at + 2 + length (conds_symbols cs) + 1) q.0 q.1))
+  simple_back {prelude = prelude} (if_then c body) have scope names sees at x e =
+      let h = have_parts (cond_symbols c) (mark (codes ")") ∷ body_symbols body) have in
+      let body_at = at + 2 + length (cond_symbols c) + 1 in
+      let p = both_ok (cond_tree scope (cond_draft (at + 2) c)) _ x e in
+      let q = both_ok (stmts_tree scope (body_draft body_at body)) _ x p.2 in
+      subst (StmtBack prelude scope names) (ok_of q.2) (if_again prelude scope names p.0 q.0 [] (cond_back prelude scope names sees c h.0 (at + 2) p.0 p.1) (body_back body h.1 scope names sees body_at q.0 q.1) tt)
+  simple_back {prelude = prelude} (if_else c body other) have scope names sees at x e =
+      let h = have_parts (cond_symbols c) (mark (codes ")") ∷ (body_symbols body ++ word (codes "else") ∷ body_symbols other)) have in
+      let g = have_parts (body_symbols body) (word (codes "else") ∷ body_symbols other) h.1 in
+      let body_at = at + 2 + length (cond_symbols c) + 1 in
+      let other_at = body_at + length (body_symbols body) + 1 in
+      let p = both_ok (cond_tree scope (cond_draft (at + 2) c)) _ x e in
+      let q = both_ok (stmts_tree scope (body_draft body_at body)) _ x p.2 in
+      let r = both_ok (stmts_tree scope (body_draft other_at other)) _ x q.2 in
+      subst (StmtBack prelude scope names) (ok_of r.2)
+      (if_again prelude scope names p.0 q.0 r.0 (cond_back prelude scope names sees c h.0 (at + 2) p.0 p.1) (body_back body g.0 scope names sees body_at q.0 q.1) (body_back other g.1 scope names sees other_at r.0 r.1))
   simple_back {prelude = prelude} (assign w subs op v) have scope names sees at x e =
       let n = word_of_symbol w (dims_symbols subs ++ mark (assign_mark op) ∷ (value_symbols v ++ mark (codes ";") ∷ [])) have in
       let h = have_parts (dims_symbols subs) (mark (assign_mark op) ∷ (value_symbols v ++ mark (codes ";") ∷ [])) n.1 in
@@ -314,7 +339,7 @@ mutual
       (dims_again prelude scope names sees q.0 (dims_back prelude scope names sees subs h.0 (at + 1) q.0 q.1))
       (value_back prelude scope names sees v g.0 (at + 1 + length (dims_symbols subs) + 1) r.0 r.1).level_6)
 
-  body_back : {prelude : Bool} (c : BodyText prelude) → AllHave (body_symbols c) → (scope : Scope) (names : Names) → Sees scope names → (at : ℕ) (xs : List Stmt) → stmts_tree scope (body_draft at c) ≡ Ok xs → Each (StmtBack prelude scope names) xs
+  body_back : {prelude dangles : Bool} (c : BodyText prelude dangles) → AllHave (body_symbols c) → (scope : Scope) (names : Names) → Sees scope names → (at : ℕ) (xs : List Stmt) → stmts_tree scope (body_draft at c) ≡ Ok xs → Each (StmtBack prelude scope names) xs
   body_back (braces ss) have scope names sees at xs e = stmts_back ss (have_parts (stmts_symbols ss) (mark (codes "}") ∷ []) have).0 scope names sees (at + 1) xs e
   body_back {prelude = prelude} (bare s) have scope names sees at xs e =
       let q = both_ok (stmt_tree scope (simple_draft at s)) _ xs e in

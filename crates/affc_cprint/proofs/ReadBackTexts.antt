@@ -12,11 +12,11 @@ use Rattle.affc_ast.specs.declared.tree.Param.{Param}
 use Rattle.affc_ast.specs.declared.tree.Param.TheVariants.{Number, Array}
 use Rattle.affc_ast.specs.declared.tree.Program.{Program}
 use Rattle.affc_grammar.specs.declared.fault.NameWhy.TheVariants.{Twice, Reserved}
-use Rattle.affc_grammar.specs.Grammar.{Name, word, mark, NamesText, one_array, and_array, DeclsText, no_decls, and_decl, DimsText, PragmasText, no_pragmas, and_range, and_context, line_feed, CondsText, no_stmts, Text, dims_symbols, conds_symbols, names_symbols, decls_symbols, stmts_symbols, params_symbols, int_symbols, line_symbols, pragma_symbols, pragmas_symbols, prelude_symbols, include_symbols, function_symbols, text_symbols, context_calls}
+use Rattle.affc_grammar.specs.Grammar.{Name, word, mark, NamesText, one_array, and_array, DeclsText, no_decls, and_decl, DimsText, PragmasText, no_pragmas, and_range, and_context, line_feed, CondText, no_stmts, Text, dims_symbols, cond_symbols, names_symbols, decls_symbols, stmts_symbols, params_symbols, int_symbols, line_symbols, pragma_symbols, pragmas_symbols, prelude_symbols, include_symbols, function_symbols, text_symbols, context_calls}
 use Rattle.affc_grammar.specs.Draft as draft
-use Rattle.affc_grammar.specs.Draft.{DeclDraft, PragmaDraft, TextDraft, word_draft, dims_draft, conds_draft, temp_draft, names_draft, decls_draft, int_value, pragmas_draft, params_draft, stmts_draft, text_draft}
+use Rattle.affc_grammar.specs.Draft.{DeclDraft, PragmaDraft, TextDraft, word_draft, dims_draft, cond_draft, comparisons_in, temp_draft, names_draft, decls_draft, int_value, pragmas_draft, params_draft, stmts_draft, text_draft}
 use Rattle.affc_grammar.specs.Names.{Thing, function, number, array, Scope, first_reason, each, thing_of, is_refused_word, why_declared, why_ranged, with_thing, with_number, with_array, ix_tree, compare_tree, decl_tree, range_of, params_tree, temps_tree, with_params, outermost, pragmas_tree, function_why, stmts_tree, program_tree}
-use Rattle.affc_grammar.specs.Printed.{Names, no_names, and_number, and_array_name, dims_text, conds_text, params_text, decls_text, int_text, ranges_text, context_text, stmts_text, stmt_text, function_text, with_pragmas, printed, holding}
+use Rattle.affc_grammar.specs.Printed.{Names, no_names, and_number, and_array_name, dims_text, tests_text, params_text, decls_text, int_text, ranges_text, context_text, stmts_text, stmt_text, function_text, with_pragmas, printed, holding}
 use Rattle.affc_cprint.specs.Layout.{◌then◌, pragmas_layout, prelude_layout, function_layout, pragmas_of, printed_text}
 use Rattle.affc_cprint.specs.Programs.{with_param_names, with_array_names}
 use Rattle.affc_cprint.proofs.Spelled.{AllHave, AllStand, have_parts, stand_both, IsName, symbol_of_name}
@@ -26,7 +26,7 @@ use Rattle.affc_cprint.proofs.Programs.{param_names_are, decl_names_from}
 use Rattle.affc_cprint.proofs.Sees.{ok_of, both_ok, then_is, allowed_ok, allowed_is, same_self, declared_none, first_none, not_static, new_or_old, Sees, sees_array}
 use Rattle.affc_cprint.proofs.Visible.{IsVisible, new_is_seen, still_visible, declared_apart}
 use Rattle.affc_cprint.proofs.ReadBack.{word_of_symbol}
-use Rattle.affc_cprint.proofs.ReadBackValues.{Each, each_append, each_length, dims_back, dims_again, IsCompareBack, conds_back, conds_again}
+use Rattle.affc_cprint.proofs.ReadBackValues.{Each, each_append, each_length, dims_back, dims_again, IsCompareBack, tests_back, tests_again}
 use Rattle.affc_cprint.proofs.ReadBackStatements.{declared_name, StmtBack, stmts_back, stmts_again}
 use Rattle.affc_cprint.proofs.ReadBackParams.{FitsInt, int_fits, int_again, found_later, Extents, ParamsBack, RangesFit, scope_params, sees_params, HasRange, params_back, params_nonempty, params_again, params_scope, params_stand}
 
@@ -143,7 +143,7 @@ temps_stand prelude scope names sees c (t ∷ ts) s b =
 -- a line comes from a text
 abbrev pub FromLine : PragmaDraft → Type 0
 FromLine (draft.range w low_at low high) = FitsInt low × FitsInt high
-FromLine (draft.context at cs) = (t : CondsText true) × (at' : ℕ) × (conds_draft at' t ≡ cs) × AllHave (conds_symbols t)
+FromLine (draft.context at cs) = (t : CondText true false) × (at' : ℕ) × (comparisons_in (cond_draft at' t) ≡ cs) × AllHave (cond_symbols t)
 
 pub lines_from_text : (c : PragmasText) (at : ℕ) → AllHave (pragmas_symbols c) → Each FromLine (pragmas_draft at c)
 lines_from_text no_pragmas at have = tt
@@ -154,8 +154,8 @@ lines_from_text (and_range ps w low high line) at have =
     let u = have_parts (int_symbols high) (line_symbols line) l.1 in
     each_append FromLine (pragmas_draft at ps) _ (lines_from_text ps at h.0) ((int_fits low l.0, int_fits high u.0), tt)
 lines_from_text (and_context ps cs line) at have =
-    let h = have_parts (pragmas_symbols ps) (pragma_symbols (codes "context") ++ (conds_symbols cs ++ line_symbols line)) have in
-    let l = have_parts (conds_symbols cs) (line_symbols line) h.1 in
+    let h = have_parts (pragmas_symbols ps) (pragma_symbols (codes "context") ++ (cond_symbols cs ++ line_symbols line)) have in
+    let l = have_parts (cond_symbols cs) (line_symbols line) h.1 in
     each_append FromLine (pragmas_draft at ps) _ (lines_from_text ps at h.0) ((cs, _, refl, l.0), tt)
 
 pub ranges_fit : (ps : List PragmaDraft) → Each FromLine ps → RangesFit ps
@@ -178,7 +178,7 @@ contexts_back inside names sees (draft.context at cs ∷ ps) earlier xs f e =
     let p = both_ok (each (compare_tree inside) cs) _ xs e in
     let q = both_ok (pragmas_tree inside earlier ps) _ xs p.2 in
     subst (Each (IsCompareBack true inside names sees)) (ok_of q.2)
-    (each_append (IsCompareBack true inside names sees) p.0 q.0 (conds_back true inside names sees f.0.0 f.0.3 f.0.1 p.0 (ap (each (compare_tree inside)) f.0.2 ∙ p.1)).0 (contexts_back inside names sees ps earlier q.0 f.1 q.1))
+    (each_append (IsCompareBack true inside names sees) p.0 q.0 (tests_back true inside names sees f.0.0 f.0.3 f.0.1 p.0 (ap (each (compare_tree inside)) f.0.2 ∙ p.1)) (contexts_back inside names sees ps earlier q.0 f.1 q.1))
 
 -- what is printed for ranges
 abbrev PrintedRanges : List PragmaDraft → List Param → Type 0
@@ -261,9 +261,9 @@ context_again : (inside : Scope) (names : Names) (sees : Sees inside names) (xs 
 context_again inside names sees [] b c at = ([], sym (append-nil (pragmas_draft at c)), λ earlier. refl)
 context_again inside names sees (x ∷ xs) b c at =
     let next = at + length (pragmas_symbols c) in
-    let t = conds_text true names (x ∷ xs) in
-    let r = conds_again true inside names sees (x ∷ xs) b (λ e. cc) in
-    (draft.context (next + 3) (conds_draft (next + 4) t) ∷ [], refl, λ earlier. then_is (each (compare_tree inside) (conds_draft (next + 4) t)) _ (x ∷ xs) _ (r.reads (next + 4)) (ap (λ l. Ok l) (append-nil (x ∷ xs))))
+    let t = tests_text names x xs in
+    let r = tests_again inside names sees x xs b in
+    (draft.context (next + 3) (comparisons_in (cond_draft (next + 4) t)) ∷ [], refl, λ earlier. then_is (each (compare_tree inside) (comparisons_in (cond_draft (next + 4) t))) _ (x ∷ xs) _ (r.reads (next + 4)) (ap (λ l. Ok l) (append-nil (x ∷ xs))))
 
 ranges_stand : (prelude : Bool) (scope : Scope) (names : Names) (c : PragmasText) (qs : List Param) → LinesStand c → ParamsBack prelude scope names qs → LinesStand (ranges_text c qs)
 ranges_stand prelude scope names c [] s b = s
@@ -274,7 +274,7 @@ ranges_stand prelude scope names c (Array d ∷ qs) s b = ranges_stand prelude (
 
 context_stands : (inside : Scope) (names : Names) (sees : Sees inside names) (c : PragmasText) (xs : List Compare) → LinesStand c → Each (IsCompareBack true inside names sees) xs → LinesStand (context_text names c xs)
 context_stands inside names sees c [] s b = s
-context_stands inside names sees c (x ∷ xs) s b = (s, refl, (conds_again true inside names sees (x ∷ xs) b (λ e. cc)).stands)
+context_stands inside names sees c (x ∷ xs) s b = (s, refl, (tests_again inside names sees x xs b).stands)
 
 -- ---- The program
 

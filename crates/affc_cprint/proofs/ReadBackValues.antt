@@ -1,4 +1,4 @@
--- Subscripts, conditions and values that are read are printed as ones that are read so, and whose tokens a text can have.
+-- Subscripts, conditions of `context` lines and values that are read are printed as ones that are read so, and whose tokens a text can have.
 use Rattle.std.proofs.Common.{◌≡◌, ℕ, ◌+◌, ◌^◌, ◌<◌, ◌≤◌, Bool, true, false, List, [], ◌∷◌, ◌++◌, length, codes, Option, Some, None, is_some, Ok, IsTrue, refl, sym, ap, subst, ◌∙◌, arith, append_assoc}
 use Rattle.std.proofs.lemmas.List.{append-nil}
 use Rattle.std.proofs.lemmas.Bool.{and_parts, and_from, leb-true, le-leb}
@@ -15,11 +15,12 @@ use Rattle.affc_ast.specs.declared.tree.Val.TheVariants as val
 use Rattle.affc_ast.specs.declared.tree.Val.TheBlock.{shape-the_row-Val-0, hidden-the_row-Val-0}
 use Rattle.affc_ast.specs.declared.tree.Val.TheOpen as layer
 use Rattle.affc_ast.specs.declared.tree.Val.TheOpen.{Val-F}
+use Rattle.affc_ast.specs.Joined.{is_ordered}
 use Rattle.affc_ast.specs.Recursion.{by_val}
-use Rattle.affc_grammar.specs.Grammar.{Name, Digits, word, number as number_symbol, mark, op_mark, shift_mark, rel_mark, is_shift, DimsText, no_dims, and_dim, CondsText, cond, and_cond, CondText, all_of, compared, ValueText, complement, load, constant, parens, cast, operand, binary, shift, ix_symbols, dims_symbols, dim_symbols, conds_symbols, cond_symbols, value_symbols}
-use Rattle.affc_grammar.specs.Draft.{ix_draft, dims_draft, conds_draft, cond_draft, value_draft}
+use Rattle.affc_grammar.specs.Grammar.{Name, Digits, word, number as number_symbol, mark, op_mark, shift_mark, rel_mark, is_shift, DimsText, no_dims, and_dim, CondText, all_of, or_all, AllText, prim, and_prim, PrimText, enclosed, compared, divisible, ValueText, complement, load, constant, parens, cast, operand, binary, shift, ix_symbols, dims_symbols, dim_symbols, cond_symbols, all_symbols, prim_symbols, value_symbols}
+use Rattle.affc_grammar.specs.Draft.{CondsDraft, no_conds, and_cond, ix_draft, dims_draft, and_conds, conjuncts, cond_draft, all_draft, prim_draft, comparison_in, comparisons_of, comparisons_in, value_draft}
 use Rattle.affc_grammar.specs.Names.{Scope, Checked, each, array_named, ix_tree, compare_tree, value_tree}
-use Rattle.affc_grammar.specs.Printed.{Names, array_name, ix_text, and_dims, dims_text, cond_text, and_conds, conds_text, ValueWritten, primary_written, times_written, plus_written, shift_written, and_written, xor_written, or_written, binary_written, shift_by, value_step, holding}
+use Rattle.affc_grammar.specs.Printed.{Names, array_name, ix_text, and_dims, dims_text, test_by, test_text, and_tests, ValueWritten, primary_written, times_written, plus_written, shift_written, and_written, xor_written, or_written, binary_written, shift_by, value_step, holding}
 use Rattle.affc_cprint.proofs.Numbers.{value_of-decimal, shift_of}
 use Rattle.affc_cprint.proofs.Places.{some_held}
 use Rattle.affc_cprint.proofs.Spelled.{AllHave, AllStand, have_parts, stand_both, IsName, IsNumeral, symbol_of_name, symbol_of_numeral, decimal_is_numeral, decimal_is_constant, leading_of_decimal, small_value}
@@ -73,6 +74,11 @@ each_length f (x ∷ xs) ys e =
     let m = ap length (ok_of q.2) in
     omega (arith, n, m)
 
+-- the comparisons of conditions one behind the other
+pub comparisons_append : (cs ds : CondsDraft) → comparisons_of (and_conds cs ds) ≡ comparisons_of cs ++ comparisons_of ds
+comparisons_append cs no_conds = sym (append-nil (comparisons_of cs))
+comparisons_append cs (and_cond ds d) = ap (λ l. l ++ comparison_in d) (comparisons_append cs ds) ∙ append_assoc (comparisons_of cs) (comparisons_of ds) (comparison_in d)
+
 module _ (prelude : Bool) (scope : Scope) (names : Names) (sees : Sees scope names) where
   abbrev pub AreBack : List Ix → Type 0
   AreBack xs = Each (IsBack prelude scope names sees) xs
@@ -107,68 +113,73 @@ module _ (prelude : Bool) (scope : Scope) (names : Names) (sees : Sees scope nam
   pub dims_again : (xs : List Ix) → AreBack xs → DimsBack (dims_text prelude names xs) xs
   dims_again xs b = dims_from no_dims [] xs (record { reads = λ at. refl; stands = refl }) b
 
-  -- ---- Conditions
+  -- ---- Conditions of `context` lines
 
   abbrev pub IsCompareBack : Compare → Type 0
-  IsCompareBack c = IsBack prelude scope names sees c.left × IsBack prelude scope names sees c.right
+  IsCompareBack c = IsBack prelude scope names sees c.left × IsBack prelude scope names sees c.right × (is_ordered c.rel ≡ true)
 
   abbrev pub AreComparesBack : List Compare → Type 0
   AreComparesBack cs = Each IsCompareBack cs
 
-  some_append : {A : Type 0} (zs xs ys : List A) → zs ≡ xs ++ ys → (xs ≡ [] → ⊥) → zs ≡ [] → ⊥
-  some_append zs [] ys e h f = h refl
-  some_append zs (x ∷ xs) ys e h f = cc
-
   mutual
-    pub conds_back : (c : CondsText prelude) → AllHave (conds_symbols c) → (at : ℕ) (xs : List Compare) → each (compare_tree scope) (conds_draft at c) ≡ Ok xs → AreComparesBack xs × (xs ≡ [] → ⊥)
-    conds_back (cond c) have at xs e = cond_back c have at xs e
-    conds_back (and_cond cs c) have at xs e =
-        let s = have_parts (conds_symbols cs) (mark (codes "&&") ∷ cond_symbols c) have in
-        let p = each_split (compare_tree scope) (conds_draft at cs) (cond_draft _ c) xs e in
-        let a = conds_back cs s.0 at p.front p.front_ok in
-        let b = cond_back c s.1 _ p.back p.back_ok in
-        (subst AreComparesBack (sym p.all) (each_append IsCompareBack p.front p.back a.0 b.0), some_append xs p.front p.back p.all a.1)
+    pub tests_back : (c : CondText prelude false) → AllHave (cond_symbols c) → (at : ℕ) (xs : List Compare) → each (compare_tree scope) (comparisons_in (cond_draft at c)) ≡ Ok xs → AreComparesBack xs
+    tests_back (all_of a) have at xs e = all_tests_back a have at xs e
+    tests_back (or_all on c a) have at xs e = absurd (cc)
 
-    pub cond_back : (c : CondText prelude) → AllHave (cond_symbols c) → (at : ℕ) (xs : List Compare) → each (compare_tree scope) (cond_draft at c) ≡ Ok xs → AreComparesBack xs × (xs ≡ [] → ⊥)
-    cond_back (all_of cs) have at xs e = conds_back cs (have_parts (conds_symbols cs) (mark (codes ")") ∷ []) have).0 (at + 1) xs e
-    cond_back (compared a rel b) have at xs e =
+    all_tests_back : (c : AllText prelude false) → AllHave (all_symbols c) → (at : ℕ) (xs : List Compare) → each (compare_tree scope) (comparisons_in (all_draft at c)) ≡ Ok xs → AreComparesBack xs
+    all_tests_back (prim q) have at xs e = test_back q have at xs e
+    all_tests_back (and_prim a q) have at xs e =
+        let s = have_parts (all_symbols a) (mark (codes "&&") ∷ prim_symbols q) have in
+        let next = at + length (all_symbols a) + 1 in
+        let p = each_split (compare_tree scope) (comparisons_in (all_draft at a)) (comparisons_in (prim_draft next q)) xs (ap (each (compare_tree scope)) (sym (comparisons_append (conjuncts (all_draft at a)) (conjuncts (prim_draft next q)))) ∙ e) in
+        subst AreComparesBack (sym p.all) (each_append IsCompareBack p.front p.back (all_tests_back a s.0 at p.front p.front_ok) (test_back q s.1 next p.back p.back_ok))
+
+    test_back : (c : PrimText prelude false) → AllHave (prim_symbols c) → (at : ℕ) (xs : List Compare) → each (compare_tree scope) (comparisons_in (prim_draft at c)) ≡ Ok xs → AreComparesBack xs
+    test_back (enclosed c) have at xs e = tests_back c (have_parts (cond_symbols c) (mark (codes ")") ∷ []) have).0 (at + 1) xs e
+    test_back (compared a rel on b) have at xs e =
         let s = have_parts (ix_symbols a) (mark (rel_mark rel) ∷ ix_symbols b) have in
-        let o = one_ok (compare_tree scope) (record { rel = rel; left = ix_draft at a; right = ix_draft _ b }) xs e in
+        let next = at + length (ix_symbols a) + 1 in
+        let o = one_ok (compare_tree scope) (record { rel = rel; left = ix_draft at a; right = ix_draft next b }) xs e in
         let p = both_ok (ix_tree scope (ix_draft at a)) _ o.0 o.1 in
-        let q = both_ok (ix_tree scope (ix_draft _ b)) _ o.0 p.2 in
-        let here : IsCompareBack (record { rel = rel; left = p.0; right = q.0 }) = (ix_back prelude scope names sees a s.0 at p.0 p.1, ix_back prelude scope names sees b s.1 _ q.0 q.1) in
-        (subst AreComparesBack (sym o.2) (subst IsCompareBack (ok_of q.2) here, tt), λ f. one_is_some xs o.0 o.2 f)
-      where
-        one_is_some : (xs : List Compare) (c : Compare) → xs ≡ c ∷ [] → xs ≡ [] → ⊥
-        one_is_some xs c e f = cc
+        let q = both_ok (ix_tree scope (ix_draft next b)) _ o.0 p.2 in
+        let here : IsCompareBack (record { rel = rel; left = p.0; right = q.0 }) = (ix_back prelude scope names sees a s.0 at p.0 p.1, ix_back prelude scope names sees b s.1 next q.0 q.1, on) in
+        subst AreComparesBack (sym o.2) (subst IsCompareBack (ok_of q.2) here, tt)
+    test_back (divisible on t by some so) have at xs e = absurd (cc)
 
-  -- what is printed for conditions
-  pub record CondsBack (cs : CondsText prelude) (xs : List Compare) : Type 0 where
-    pub reads : (at : ℕ) → each (compare_tree scope) (conds_draft at cs) ≡ Ok xs
-    pub stands : AllStand (conds_symbols cs)
+-- what is printed for the conditions of a `context` line
+pub record TestsBack (scope : Scope) (t : AllText true false) (xs : List Compare) : Type 0 where
+  pub reads : (at : ℕ) → each (compare_tree scope) (comparisons_in (all_draft at t)) ≡ Ok xs
+  pub stands : AllStand (all_symbols t)
 
-  one_compare : (c : Compare) → IsCompareBack c → CondsBack (cond (cond_text prelude names c)) (c ∷ [])
-  one_compare c b = record {
-    reads = λ at.
-        let next = at + length (ix_symbols (ix_text prelude names c.left)) + 1 in
-        each_one (compare_tree scope) (record { rel = c.rel; left = ix_draft at (ix_text prelude names c.left); right = ix_draft next (ix_text prelude names c.right) }) c
-        (then_is (ix_tree scope (ix_draft at (ix_text prelude names c.left))) _ c.left _ (b.0.whole at) (then_is (ix_tree scope (ix_draft next (ix_text prelude names c.right))) _ c.right _ (b.1.whole next) refl));
-    stands = stand_both (ix_symbols (ix_text prelude names c.left)) (mark (rel_mark c.rel) ∷ ix_symbols (ix_text prelude names c.right)) b.0.whole_stands b.1.whole_stands;
-  }
+module _ (scope : Scope) (names : Names) (sees : Sees scope names) where
+  one_test : (c : Compare) → IsCompareBack true scope names sees c → TestsBack scope (prim (test_text names c)) (c ∷ [])
+  one_test c b = of_held (holding (is_ordered c.rel)) (some_held (is_ordered c.rel) b.2)
+    where
+      of_held : (o : Option (IsTrue (is_ordered c.rel))) → is_some o ≡ true → TestsBack scope (prim (test_by names c o)) (c ∷ [])
+      of_held (Some h) s = record {
+        reads = λ at.
+            let next = at + length (ix_symbols (ix_text true names c.left)) + 1 in
+            each_one (compare_tree scope) (record { rel = c.rel; left = ix_draft at (ix_text true names c.left); right = ix_draft next (ix_text true names c.right) }) c
+            (then_is (ix_tree scope (ix_draft at (ix_text true names c.left))) _ c.left _ (b.0.whole at) (then_is (ix_tree scope (ix_draft next (ix_text true names c.right))) _ c.right _ (b.1.whole next) refl));
+        stands = stand_both (ix_symbols (ix_text true names c.left)) (mark (rel_mark c.rel) ∷ ix_symbols (ix_text true names c.right)) b.0.whole_stands b.1.whole_stands;
+      }
+      of_held None s = absurd (cc)
 
-  conds_from : (cs : CondsText prelude) (ys xs : List Compare) → CondsBack cs ys → AreComparesBack xs → CondsBack (and_conds prelude names cs xs) (ys ++ xs)
-  conds_from cs ys [] d b = record { reads = λ at. d.reads at ∙ ap (λ l. Ok l) (sym (append-nil ys)); stands = d.stands }
-  conds_from cs ys (x ∷ xs) d b =
-      let one = one_compare x b.0 in
-      let more : CondsBack (and_cond cs (cond_text prelude names x)) (ys ++ x ∷ []) = record {
-        reads = λ at. each_join (compare_tree scope) (conds_draft at cs) _ ys (x ∷ []) (d.reads at) (one.reads _);
-        stands = stand_both (conds_symbols cs) (mark (codes "&&") ∷ cond_symbols (cond_text prelude names x)) d.stands one.stands;
+  tests_from : (t : AllText true false) (ys xs : List Compare) → TestsBack scope t ys → AreComparesBack true scope names sees xs → TestsBack scope (and_tests names t xs) (ys ++ xs)
+  tests_from t ys [] d b = record { reads = λ at. d.reads at ∙ ap (λ l. Ok l) (sym (append-nil ys)); stands = d.stands }
+  tests_from t ys (x ∷ xs) d b =
+      let one = one_test x b.0 in
+      let more : TestsBack scope (and_prim t (test_text names x)) (ys ++ x ∷ []) = record {
+        reads = λ at.
+            let next = at + length (all_symbols t) + 1 in
+            ap (each (compare_tree scope)) (comparisons_append (conjuncts (all_draft at t)) (conjuncts (prim_draft next (test_text names x))))
+            ∙ each_join (compare_tree scope) (comparisons_in (all_draft at t)) (comparisons_in (prim_draft next (test_text names x))) ys (x ∷ []) (d.reads at) (one.reads next);
+        stands = stand_both (all_symbols t) (mark (codes "&&") ∷ prim_symbols (test_text names x)) d.stands one.stands;
       } in
-      subst (CondsBack (and_conds prelude names (and_cond cs (cond_text prelude names x)) xs)) (append_assoc ys (x ∷ []) xs) (conds_from (and_cond cs (cond_text prelude names x)) (ys ++ x ∷ []) xs more b.1)
+      subst (TestsBack scope (and_tests names (and_prim t (test_text names x)) xs)) (append_assoc ys (x ∷ []) xs) (tests_from (and_prim t (test_text names x)) (ys ++ x ∷ []) xs more b.1)
 
-  pub conds_again : (xs : List Compare) → AreComparesBack xs → (xs ≡ [] → ⊥) → CondsBack (conds_text prelude names xs) xs
-  conds_again [] b some = absurd (some refl)
-  conds_again (x ∷ xs) b some = conds_from (cond (cond_text prelude names x)) (x ∷ []) xs (one_compare x b.0) b.1
+  pub tests_again : (x : Compare) (xs : List Compare) → AreComparesBack true scope names sees (x ∷ xs) → TestsBack scope (and_tests names (prim (test_text names x)) xs) (x ∷ xs)
+  tests_again x xs b = tests_from (prim (test_text names x)) (x ∷ []) xs (one_test x b.0) b.1
 
 -- ---- Values
 

@@ -4,7 +4,7 @@ use Rattle.std.proofs.lemmas.Bool.{and_parts, and_from}
 use Rattle.std.proofs.lemmas.List.Folds.{list_all-append}
 use Rattle.std.specs.List.{list_all}
 use Rattle.affc_grammar.specs.Reads.{can_have}
-use Rattle.affc_grammar.specs.Grammar.{Symbol, Text, text_symbols, word, LineText, line_feed, text_end, PragmasText, no_pragmas, and_range, and_context, line_symbols, pragma_symbols, pragmas_symbols, int_symbols, conds_symbols, prelude_symbols, include_symbols, function_symbols}
+use Rattle.affc_grammar.specs.Grammar.{Symbol, Text, text_symbols, word, LineText, line_feed, text_end, PragmasText, no_pragmas, and_range, and_context, line_symbols, pragma_symbols, pragmas_symbols, int_symbols, cond_symbols, prelude_symbols, include_symbols, function_symbols}
 use Rattle.affc_cprint.specs.KeepsRules.{KeepsRules}
 use Rattle.affc_cprint.proofs.Spelled.{AllHave, AllStand, can_stand, is_other}
 use Rattle.affc_cprint.proofs.LexedPrograms.{LinesStand}
@@ -63,8 +63,8 @@ lines_have (and_range ps w low high line) s =
     (ap (λ l. list_all (λ x. can_have x.kind x.bytes) (word w ∷ l)) (sym (append_assoc (int_symbols low) (int_symbols high) (line_symbols line)))
     ∙ have_both (word w ∷ (int_symbols low ++ int_symbols high)) (line_symbols line) (stand_have (word w ∷ (int_symbols low ++ int_symbols high)) s.2) (line_has line))
 lines_have (and_context ps cs line) s =
-    have_both (pragmas_symbols ps) (pragma_symbols (codes "context") ++ (conds_symbols cs ++ line_symbols line)) (lines_have ps s.0)
-    (have_both (conds_symbols cs) (line_symbols line) (stand_have (conds_symbols cs) s.2) (line_has line))
+    have_both (pragmas_symbols ps) (pragma_symbols (codes "context") ++ (cond_symbols cs ++ line_symbols line)) (lines_have ps s.0)
+    (have_both (cond_symbols cs) (line_symbols line) (stand_have (cond_symbols cs) s.2) (line_has line))
 
 prelude_has : (b : Bool) → AllHave (prelude_symbols b)
 prelude_has true = refl

@@ -5,6 +5,9 @@ use Rattle.affc_ast.specs.declared.tree.Ix.{Ix}
 use Rattle.affc_ast.specs.declared.tree.Ix.TheOpen as ix
 use Rattle.affc_ast.specs.declared.tree.Ix.TheOpen.{Ix-F}
 use Rattle.affc_ast.specs.declared.tree.Compare.{Compare}
+use Rattle.affc_ast.specs.declared.tree.Cond.{Cond}
+use Rattle.affc_ast.specs.declared.tree.Cond.TheOpen as cond
+use Rattle.affc_ast.specs.declared.tree.Cond.TheOpen.{Cond-F}
 use Rattle.affc_ast.specs.declared.tree.Local.{Local}
 use Rattle.affc_ast.specs.declared.tree.Val.{Val}
 use Rattle.affc_ast.specs.declared.tree.Val.TheOpen as val
@@ -16,7 +19,7 @@ use Rattle.affc_ast.specs.declared.tree.Decl.{Decl}
 use Rattle.affc_ast.specs.declared.tree.Param.{Param}
 use Rattle.affc_ast.specs.declared.tree.Param.TheVariants.{Number, Array}
 use Rattle.affc_ast.specs.declared.tree.Program.{Program}
-use Rattle.affc_ast.specs.Recursion.{by_ix, by_val, by_stmt}
+use Rattle.affc_ast.specs.Recursion.{by_ix, by_val, by_cond, by_stmt}
 use Rattle.affc_grammar.specs.Limits.{wide_limits}
 
 abbrev pub is_none : {A : Type 0} → List A → Bool
@@ -72,6 +75,15 @@ module _ (test : Ix → Bool) where
   abbrev pub compare_passes : Compare → Bool
   compare_passes c = test c.left && test c.right
 
+  abbrev pub cond_step : Cond-F Bool → Bool
+  cond_step (cond.Compare rel left right) = test left && test right
+  cond_step (cond.All bs) = list_all (λ b. b) bs
+  cond_step (cond.Any bs) = list_all (λ b. b) bs
+  cond_step (cond.Divides value by so) = test value
+
+  abbrev pub cond_passes : Cond → Bool
+  cond_passes c = by_cond cond_step c
+
   abbrev pub value_step : Val-F Bool → Bool
   value_step (val.Load id subs) = list_all test subs
   value_step (val.Const n) = true
@@ -88,7 +100,7 @@ module _ (test : Ix → Bool) where
 
   abbrev pub stmt_step : Stmt-F Bool → Bool
   stmt_step (stmt.For iter low rel high body) = test low && (test high && list_all (λ b. b) body)
-  stmt_step (stmt.If cs body) = list_all compare_passes cs && list_all (λ b. b) body
+  stmt_step (stmt.If c body other) = cond_passes c && (list_all (λ b. b) body && list_all (λ b. b) other)
   stmt_step (stmt.Assign op id subs v) = list_all test subs && value_passes v
   stmt_step (stmt.Block ls body) = list_all local_passes ls && list_all (λ b. b) body
 

@@ -3,7 +3,7 @@
 use Rattle.std.specs.Prelude.{ℕ, zero, suc, Bool, true, false, List, [], ◌++◌, codes, if◌then◌else◌}
 use Rattle.affc_lex.specs.Pieces.{prelude}
 use Rattle.affc_ast.specs.declared.tree.Program.{Program}
-use Rattle.affc_grammar.specs.Grammar.{IxText, term, plus, minus, TermText, factor, times, FactorText, atom, negated, AtomText, literal, name, grouped, chosen, divided, DimsText, no_dims, and_dim, CondsText, cond, and_cond, CondText, all_of, compared, ValueText, complement, load, constant, parens, cast, operand, binary, shift, StepText, then_up, up_then, up_by_one, LocalsText, no_locals, and_local, StmtsText, no_stmts, and_stmt, StmtText, simple, block, SimpleText, for_loop, if_all, assign, BodyText, braces, bare, ParamText, number_param, array_param, ParamsText, param, and_param, NamesText, one_array, and_array, DeclsText, no_decls, and_decl, FunctionText, IntText, LineText, line_feed, text_end, PragmasText, no_pragmas, and_range, and_context, choice_name, rounding_name, rel_mark, op_mark, shift_mark, bound_mark, assign_mark}
+use Rattle.affc_grammar.specs.Grammar.{IxText, term, plus, minus, TermText, factor, times, FactorText, atom, negated, AtomText, literal, name, grouped, chosen, divided, DimsText, no_dims, and_dim, CondText, all_of, or_all, AllText, prim, and_prim, PrimText, enclosed, compared, divisible, ValueText, complement, load, constant, parens, cast, operand, binary, shift, StepText, then_up, up_then, up_by_one, LocalsText, no_locals, and_local, StmtsText, no_stmts, and_stmt, StmtText, simple, block, SimpleText, for_loop, if_then, if_else, assign, BodyText, braces, bare, ParamText, number_param, array_param, ParamsText, param, and_param, NamesText, one_array, and_array, DeclsText, no_decls, and_decl, FunctionText, IntText, LineText, line_feed, text_end, PragmasText, no_pragmas, and_range, and_context, choice_name, rounding_name, rel_mark, zero_mark, op_mark, shift_mark, bound_mark, assign_mark}
 use Rattle.affc_grammar.specs.Printed.{params_text, ranges_text, context_text, function_text}
 
 -- as `++`, grouped to the right
@@ -39,13 +39,18 @@ dims_layout no_dims = []
 dims_layout (and_dim ds a) = dims_layout ds then codes "[" then ix_layout a then codes "]"
 
 abbrev mutual
-  pub conds_layout : {prelude : Bool} → CondsText prelude → List ℕ
-  conds_layout (cond c) = cond_layout c
-  conds_layout (and_cond cs c) = conds_layout cs then codes " && " then cond_layout c
+  pub cond_layout : {prelude wide : Bool} → CondText prelude wide → List ℕ
+  cond_layout (all_of a) = all_layout a
+  cond_layout (or_all _ c a) = cond_layout c then codes " || " then all_layout a
 
-  pub cond_layout : {prelude : Bool} → CondText prelude → List ℕ
-  cond_layout (all_of cs) = codes "(" then conds_layout cs then codes ")"
-  cond_layout (compared a rel b) = ix_layout a then codes " " then rel_mark rel then codes " " then ix_layout b
+  pub all_layout : {prelude wide : Bool} → AllText prelude wide → List ℕ
+  all_layout (prim q) = prim_layout q
+  all_layout (and_prim a q) = all_layout a then codes " && " then prim_layout q
+
+  pub prim_layout : {prelude wide : Bool} → PrimText prelude wide → List ℕ
+  prim_layout (enclosed c) = codes "(" then cond_layout c then codes ")"
+  prim_layout (compared a rel _ b) = ix_layout a then codes " " then rel_mark rel then codes " " then ix_layout b
+  prim_layout (divisible _ t by _ so) = term_layout t then codes " % " then by then codes " " then zero_mark so then codes " 0"
 
 abbrev pub value_layout : {prelude : Bool} {n : ℕ} → ValueText prelude n → List ℕ
 value_layout (complement v) = codes "~" then value_layout v
@@ -83,13 +88,19 @@ abbrev mutual
   stmt_layout level (simple s) = simple_layout level s
   stmt_layout level (block ls ss) = codes "{\n" then locals_layout (suc level) ls then stmts_layout (suc level) ss then indent level then codes "}\n"
 
-  pub simple_layout : {prelude : Bool} → (level : ℕ) → SimpleText prelude → List ℕ
+  pub simple_layout : {prelude dangles : Bool} → (level : ℕ) → SimpleText prelude dangles → List ℕ
   simple_layout level (for_loop iterator low tested strict high step body) =
       codes "for (int64_t " then iterator then codes " = " then ix_layout low then codes "; " then tested then codes " " then bound_mark strict then codes " " then ix_layout high then codes "; " then step_layout step then codes ")" then body_layout level body
-  simple_layout level (if_all cs body) = codes "if (" then conds_layout cs then codes ")" then body_layout level body
+  simple_layout level (if_then c body) = codes "if (" then cond_layout c then codes ")" then body_layout level body
+  simple_layout level (if_else c body other) = codes "if (" then cond_layout c then codes ")" then body_before_else level body then body_layout level other
   simple_layout level (assign array subs op v) = array then dims_layout subs then codes " " then assign_mark op then codes " " then value_layout v then codes ";\n"
 
-  pub body_layout : {prelude : Bool} → (level : ℕ) → BodyText prelude → List ℕ
+  -- up to the word `else`, which stands behind a brace in the brace's line
+  pub body_before_else : {prelude dangles : Bool} → (level : ℕ) → BodyText prelude dangles → List ℕ
+  body_before_else level (braces ss) = codes " {\n" then stmts_layout (suc level) ss then indent level then codes "} else"
+  body_before_else level (bare s) = codes " " then simple_layout level s then indent level then codes "else"
+
+  pub body_layout : {prelude dangles : Bool} → (level : ℕ) → BodyText prelude dangles → List ℕ
   body_layout level (braces ss) = codes " {\n" then stmts_layout (suc level) ss then indent level then codes "}\n"
   body_layout level (bare s) = codes " " then simple_layout level s
 
@@ -130,7 +141,7 @@ line_layout text_end = []
 abbrev pub pragmas_layout : PragmasText → List ℕ
 pragmas_layout no_pragmas = []
 pragmas_layout (and_range ps w low high line) = pragmas_layout ps then codes "#pragma affc param " then w then codes " " then int_layout low then codes " " then int_layout high then line_layout line
-pragmas_layout (and_context ps cs line) = pragmas_layout ps then codes "#pragma affc context " then conds_layout cs then line_layout line
+pragmas_layout (and_context ps c line) = pragmas_layout ps then codes "#pragma affc context " then cond_layout c then line_layout line
 
 abbrev pub prelude_layout : (has_prelude : Bool) → List ℕ
 prelude_layout true = prelude

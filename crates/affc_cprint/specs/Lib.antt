@@ -3,6 +3,7 @@ pub mod Adds
 pub mod Places
 pub mod Seen
 pub mod Statements
+pub mod Standings
 pub mod Levels
 pub mod Programs
 pub mod KeepsRules

@@ -1,5 +1,5 @@
 -- What the lines before the function, its parameters and its declarations add to the text, one behind the other.
-use Rattle.std.specs.Prelude.{ℕ, Bool, true, List, [], ◌∷◌, codes}
+use Rattle.std.specs.Prelude.{ℕ, Bool, List, [], ◌∷◌, codes}
 use Rattle.affc_ast.specs.declared.tree.Compare.{Compare}
 use Rattle.affc_ast.specs.declared.tree.Decl.{Decl}
 use Rattle.affc_ast.specs.declared.tree.Param.{Param}
@@ -7,9 +7,9 @@ use Rattle.affc_ast.specs.declared.tree.Param.TheVariants.{Number, Array}
 use Rattle.affc_ast.specs.declared.tree.Program.{Program}
 use Rattle.std.specs.List.{flat_map}
 use Rattle.affc_grammar.specs.Grammar.{Name}
-use Rattle.affc_grammar.specs.Printed.{Names, param_text, and_param_name, and_array_name, int_text, conds_text, params_text, no_names}
-use Rattle.affc_cprint.specs.Layout.{◌then◌, conds_layout, param_layout, params_layout, int_layout}
-use Rattle.affc_cprint.specs.Statements.{dim_added, line_added}
+use Rattle.affc_grammar.specs.Printed.{Names, param_text, and_param_name, and_array_name, int_text, params_text, no_names}
+use Rattle.affc_cprint.specs.Layout.{◌then◌, param_layout, params_layout, int_layout}
+use Rattle.affc_cprint.specs.Statements.{dim_added, tests_added, line_added}
 
 -- the line of a parameter that is a number
 abbrev pub range_added : Param → List ℕ
@@ -19,7 +19,7 @@ range_added (Array d) = []
 -- the line of all conditions, if there are any
 abbrev pub context_added : Names → List Compare → List ℕ
 context_added names [] = []
-context_added names (c ∷ cs) = codes "#pragma affc context " then conds_layout (conds_text true names (c ∷ cs)) then codes "\n"
+context_added names (c ∷ cs) = codes "#pragma affc context " then tests_added names (c ∷ cs) then codes "\n"
 
 -- parameters behind the first; each sees those before it
 abbrev pub params_added : (prelude : Bool) → Names → List Param → List ℕ

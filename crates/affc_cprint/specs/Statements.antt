@@ -1,8 +1,9 @@
 -- What statements, conditions and locals add to the text, one behind the other.
-use Rattle.std.specs.Prelude.{ℕ, Bool, true, false, List, [], ◌∷◌, take, codes, Option}
+use Rattle.std.specs.Prelude.{ℕ, Bool, true, false, List, [], ◌∷◌, ◌++◌, take, codes, Option}
 use Rattle.std.specs.List.{flat_map}
 use Rattle.affc_ast.specs.declared.tree.Ix.{Ix}
 use Rattle.affc_ast.specs.declared.tree.Compare.{Compare}
+use Rattle.affc_ast.specs.declared.tree.Cond.{Cond}
 use Rattle.affc_ast.specs.declared.tree.Local.{Local}
 use Rattle.affc_ast.specs.declared.tree.ArrayId.{ArrayId}
 use Rattle.affc_ast.specs.declared.tree.Op.{Op}
@@ -10,16 +11,21 @@ use Rattle.affc_ast.specs.declared.tree.Rel.{Rel}
 use Rattle.affc_ast.specs.declared.tree.Stmt.{Stmt}
 use Rattle.affc_ast.specs.declared.tree.Val.{Val}
 use Rattle.affc_grammar.specs.Grammar.{Name, StmtText, bound_mark, assign_mark}
-use Rattle.affc_grammar.specs.Printed.{Names, ix_text, cond_text, value_text, stmt_text, array_name, is_less, and_number}
-use Rattle.affc_cprint.specs.Layout.{◌then◌, ix_layout, value_layout, cond_layout, indent, stmt_layout}
+use Rattle.affc_grammar.specs.Printed.{Names, ix_text, cond_text, test_text, tests_text, value_text, stmt_text, array_name, is_less, and_number}
+use Rattle.affc_cprint.specs.Layout.{◌then◌, ix_layout, value_layout, cond_layout, prim_layout, indent, stmt_layout}
 
 -- a subscript or an extent
 abbrev pub dim_added : (prelude : Bool) → Names → Ix → List ℕ
 dim_added prelude names e = codes "[" then ix_layout (ix_text prelude names e) then codes "]"
 
--- a condition behind another
-abbrev pub cond_added : (prelude : Bool) → Names → Compare → List ℕ
-cond_added prelude names c = codes " && " then cond_layout (cond_text prelude names c)
+-- a condition of a `context` line behind another
+abbrev pub test_added : Names → Compare → List ℕ
+test_added names c = codes " && " then prim_layout (test_text names c)
+
+-- all conditions of a `context` line
+abbrev pub tests_added : Names → List Compare → List ℕ
+tests_added names [] = []
+tests_added names (c ∷ cs) = cond_layout (tests_text names c cs)
 
 -- locals are written with the prelude only
 abbrev pub local_added : (prelude : Bool) → (level : ℕ) → Names → Local → List ℕ
@@ -47,6 +53,10 @@ abbrev pub head_layout : (prelude : Bool) → Names → Name → Ix → Rel → 
 head_layout prelude names i low rel high =
     codes "for (int64_t " then i then codes " = " then ix_layout (ix_text prelude names low) then codes "; " then i then codes " " then bound_mark (is_less rel) then codes " "
     then ix_layout (ix_text prelude names high) then codes "; " then i then codes "++) {\n"
+
+-- if (CONDITION) {
+abbrev pub if_layout : (prelude : Bool) → Names → Cond → List ℕ
+if_layout prelude names c = codes "if (" ++ (cond_layout (cond_text prelude names c) ++ codes ") {\n")
 
 -- an assignment
 abbrev pub assign_layout : (prelude : Bool) → Names → Option Op → ArrayId → List Ix → Val → List ℕ

@@ -3,6 +3,7 @@ ghost use Rattle.std.specs.Prelude.{◌≡◌};
 ghost use Rattle.affc_grammar.specs.Grammar.{level_of};
 ghost use Rattle.affc_cprint.specs.Places.{is_inside, is_factor, is_negated, divides};
 ghost use Rattle.affc_cprint.specs.Levels.{number_of, op_left, op_right};
+ghost use Rattle.affc_cprint.specs.Standings.{is_joined_at, is_in_all};
 
 use affc_ast::tree::Op;
 
@@ -43,6 +44,28 @@ pub fn is_divided(prelude: bool, by: i64) -> bool
     ensures { result ≡ divides prelude by }
 {
     prelude && by != 0
+}
+
+/// Where a condition stands: beside `||`, one that is joined by `||` has brackets, and beside `&&`, each that is joined.
+#[derive(Clone, Copy)]
+pub enum Standing {
+    Alone,
+    InAny,
+    InAll,
+}
+
+impl Standing {
+    pub fn is_joined(self) -> bool
+        ensures { result ≡ is_joined_at self }
+    {
+        !matches!(self, Standing::Alone)
+    }
+
+    pub fn is_in_all(self) -> bool
+        ensures { result ≡ is_in_all self }
+    {
+        matches!(self, Standing::InAll)
+    }
 }
 
 /// How tightly binds what stands round a value: there a looser value has brackets.

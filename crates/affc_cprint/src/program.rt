@@ -1,7 +1,7 @@
 //! Lines before the function, its head, its declarations and its body.
 ghost use Rattle.std.specs.Prelude.{◌≡◌, OnOk, IfOk, string_bytes, codes, [], ◌∷◌};
 ghost use Rattle.std.specs.List.{flat_map};
-ghost use Rattle.affc_grammar.specs.Printed.{no_names, int_text, param_text, array_text, and_param_name, and_array_name, conds_text, params_text, is_input};
+ghost use Rattle.affc_grammar.specs.Printed.{no_names, int_text, param_text, array_text, and_param_name, and_array_name, params_text, is_input};
 ghost use Rattle.affc_ast.specs.declared.tree.Param.TheVariants.{Number};
 ghost use Rattle.affc_cprint.specs.Adds.{Adds};
 ghost use Rattle.affc_cprint.specs.Seen.{seen};
@@ -10,7 +10,7 @@ ghost use Rattle.affc_cprint.specs.Statements.{dim_added};
 ghost use Rattle.affc_cprint.specs.Programs.{range_added, context_added, params_added, with_param_names, decls_added, with_array_names, function_head, function_added};
 
 use crate::index::{Names, decimal, dims, push};
-use crate::stmt::{conds, stmts};
+use crate::stmt::{stmts, tests};
 use affc_ast::tree::{Compare, Decl, Ix, Param, Program, Role};
 use affc_lex::prelude::PRELUDE;
 use std::alloc::{AllocError, Global};
@@ -79,7 +79,7 @@ fn context(out: &mut String, names: &Names<'_>, context: &[Compare]) -> Result<(
         return Ok(());
     }
     push(out, "#pragma affc context ")?;
-    conds(out, true, names, context)?;
+    tests(out, names, context)?;
     push(out, "\n")
 }
 

@@ -1,18 +1,21 @@
 //! Conditions, locals and statements.
-ghost use Rattle.std.specs.Prelude.{◌≡◌, ◌+◌, ◌++◌, OnOk, IfOk, string_bytes, codes, length};
+ghost use Rattle.std.specs.Prelude.{◌≡◌, ◌+◌, ◌++◌, OnOk, IfOk, string_bytes, codes, length, map, not, ◌&&◌, [], if◌then◌else◌};
 ghost use Rattle.std.specs.List.{flat_map};
-ghost use Rattle.affc_grammar.specs.Grammar.{rel_mark, assign_mark, bound_mark};
-ghost use Rattle.affc_grammar.specs.Printed.{is_less, cond_text, conds_text, stmt_text};
+ghost use Rattle.affc_ast.specs.Joined.{is_ordered};
+ghost use Rattle.affc_grammar.specs.Grammar.{rel_mark, zero_mark, assign_mark, bound_mark};
+ghost use Rattle.affc_grammar.specs.Printed.{is_less, test_text, stmt_text};
 ghost use Rattle.affc_cprint.specs.Adds.{Adds};
 ghost use Rattle.affc_cprint.specs.Seen.{seen};
-ghost use Rattle.affc_cprint.specs.Layout.{◌then◌, cond_layout, conds_layout, indent, stmt_layout};
+ghost use Rattle.affc_cprint.specs.Forms.{is_none};
+ghost use Rattle.affc_cprint.specs.Layout.{◌then◌, prim_layout, indent, stmt_layout};
 ghost use Rattle.affc_grammar.specs.Printed.{and_number};
-ghost use Rattle.affc_cprint.specs.Statements.{first_numbers, head_layout, assign_layout, line_added, local_added, locals_added, with_locals};
+ghost use Rattle.affc_cprint.specs.Standings.{cond_at, written, comparison_layout, remainder_layout, entries_layout};
+ghost use Rattle.affc_cprint.specs.Statements.{first_numbers, head_layout, if_layout, assign_layout, line_added, local_added, locals_added, tests_added, with_locals};
 
-use crate::brackets::{Level, Place};
-use crate::index::{Names, dims, ix, push};
+use crate::brackets::{Level, Place, Standing, is_divided};
+use crate::index::{Names, close, decimal, dims, ix, open, push};
 use crate::value::{array, value};
-use affc_ast::tree::{ArrayId, Compare, Ix, Local, Op, Rel, Stmt, Val};
+use affc_ast::tree::{ArrayId, Compare, Cond, Ix, Local, Op, Rel, Stmt, Val};
 use std::alloc::AllocError;
 
 fn relation(out: &mut String, rel: Rel) -> Result<(), AllocError>
@@ -24,6 +27,7 @@ fn relation(out: &mut String, rel: Rel) -> Result<(), AllocError>
         Rel::Greater => push(out, " > "),
         Rel::GreaterEqual => push(out, " >= "),
         Rel::Equal => push(out, " == "),
+        Rel::NotEqual => push(out, " != "),
     }
 }
 
@@ -33,7 +37,9 @@ fn bound(out: &mut String, rel: Rel) -> Result<(), AllocError>
 {
     match rel {
         Rel::Less => push(out, " < "),
-        Rel::LessEqual | Rel::Greater | Rel::GreaterEqual | Rel::Equal => push(out, " <= "),
+        Rel::LessEqual | Rel::Greater | Rel::GreaterEqual | Rel::Equal | Rel::NotEqual => push(
+            out, " <= ",
+        ),
     }
 }
 
@@ -51,36 +57,172 @@ fn assignment(out: &mut String, op: Option<Op>) -> Result<(), AllocError>
     }
 }
 
-#[tactic(auto, using(std::proofs::Common::append_assoc))]
-fn cond(out: &mut String, prelude: bool, names: &Names<'_>, c: &Compare) -> Result<(), AllocError>
-    ensures { OnOk result (Adds (string_bytes out.old) (string_bytes out.new) (cond_layout (cond_text prelude (seen names.now) c.now))) }
-{
-    ix(out, prelude, names, &c.left, Place::Whole)?;
-    relation(out, c.rel)?;
-    ix(out, prelude, names, &c.right, Place::Whole)
-}
+// ---- Conditions
 
-#[tactic(auto, using(crate::proofs::Chains::conditions))]
-pub fn conds(
+#[tactic(auto, using(std::proofs::Common::append_assoc))]
+fn comparison(
     out: &mut String,
     prelude: bool,
     names: &Names<'_>,
-    conds: &[Compare],
+    left: &Ix,
+    rel: Rel,
+    right: &Ix,
 ) -> Result<(), AllocError>
-    ensures { OnOk result (Adds (string_bytes out.old) (string_bytes out.new) (conds_layout (conds_text prelude (seen names.now) conds.now))) }
+    ensures { OnOk result (Adds (string_bytes out.old) (string_bytes out.new) (comparison_layout prelude (seen names.now) left.now rel right.now)) }
 {
-    match conds {
-        [] => push(out, "0 < 0"),
+    ix(out, prelude, names, left, Place::Whole)?;
+    relation(out, rel)?;
+    ix(out, prelude, names, right, Place::Whole)
+}
+
+// Where a remainder is to be 0, or not.
+fn zero(out: &mut String, so: bool) -> Result<(), AllocError>
+    ensures { OnOk result (Adds (string_bytes out.old) (string_bytes out.new) (codes " " then zero_mark so then codes " 0")) }
+{
+    if so {
+        push(out, " == 0")
+    } else {
+        push(out, " != 0")
+    }
+}
+
+// A remainder by 0, which no text has, is written as a condition that is false.
+fn remainder(
+    out: &mut String,
+    prelude: bool,
+    names: &Names<'_>,
+    of: &Ix,
+    by: i64,
+    so: bool,
+) -> Result<(), AllocError>
+    ensures { OnOk result (Adds (string_bytes out.old) (string_bytes out.new) (remainder_layout prelude (seen names.now) of.now by so)) }
+{
+    if !is_divided(true, by) {
+        return push(out, "0 < 0");
+    }
+    ix(out, prelude, names, of, Place::RightOfSum)?;
+    push(out, " % ")?;
+    decimal(out, by.unsigned_abs())?;
+    zero(out, so)
+}
+
+// A mark, where it is wanted.
+fn between(out: &mut String, mark: &str, wanted: bool) -> Result<(), AllocError>
+    ensures { OnOk result (Adds (string_bytes out.old) (string_bytes out.new) (if wanted then mark.now else [])) }
+{
+    if wanted { push(out, mark) } else { Ok(()) }
+}
+
+// Whether conditions have brackets: where they are joined with others, and there are some.
+fn is_wrapped(joined: bool, list: &[Cond]) -> bool
+    ensures { result ≡ (joined && not (is_none list.now)) }
+{
+    joined && !list.is_empty()
+}
+
+/// A condition where it stands.
+#[cycle(conditions)]
+fn cond(
+    out: &mut String,
+    prelude: bool,
+    names: &Names<'_>,
+    c: &Cond,
+    place: Standing,
+) -> Result<(), AllocError>
+    ensures { OnOk result (Adds (string_bytes out.old) (string_bytes out.new) (cond_at place (written prelude (seen names.now) c.now))) }
+{
+    match c {
+        Cond::Compare { left, rel, right } => comparison(out, prelude, names, left, *rel, right),
+        Cond::Divides { value: of, by, yes } => remainder(out, prelude, names, of, *by, *yes),
+        Cond::All(list) => {
+            let wanted = is_wrapped(place.is_in_all(), list.as_slice());
+            open(out, wanted)?;
+            entries(
+                out,
+                prelude,
+                names,
+                list.as_slice(),
+                " && ",
+                Standing::InAll,
+            )?;
+            close(out, wanted)
+        }
+        Cond::Any(list) => {
+            let wanted = is_wrapped(place.is_joined(), list.as_slice());
+            open(out, wanted)?;
+            entries(
+                out,
+                prelude,
+                names,
+                list.as_slice(),
+                " || ",
+                Standing::InAny,
+            )?;
+            close(out, wanted)
+        }
+    }
+}
+
+/// Conditions with a mark between them. Of none, which no text joins, one that is false is written.
+#[cycle(conditions)]
+fn entries(
+    out: &mut String,
+    prelude: bool,
+    names: &Names<'_>,
+    list: &[Cond],
+    mark: &str,
+    place: Standing,
+) -> Result<(), AllocError>
+    ensures { OnOk result (Adds (string_bytes out.old) (string_bytes out.new) (entries_layout mark.now place (map (written prelude (seen names.now)) list.now))) }
+{
+    if list.is_empty() {
+        return push(out, "0 < 0");
+    }
+    let mut is_later = false;
+    for c in list {
+        between(out, mark, is_later)?;
+        is_later = true;
+        cond(out, prelude, names, c, place)?;
+    }
+    Ok(())
+}
+
+// A condition of a `context` line. `!=`, which none has, is written as a condition that is false.
+#[tactic(auto, using(crate::proofs::Joined::test_pieces))]
+fn test(out: &mut String, names: &Names<'_>, c: &Compare) -> Result<(), AllocError>
+    ensures { OnOk result (Adds (string_bytes out.old) (string_bytes out.new) (prim_layout (test_text (seen names.now) c.now))) }
+{
+    if is_ordered(c.rel) {
+        comparison(out, true, names, &c.left, c.rel, &c.right)
+    } else {
+        push(out, "0 < 0")
+    }
+}
+
+fn is_ordered(rel: Rel) -> bool
+    ensures { result ≡ is_ordered rel }
+{
+    !matches!(rel, Rel::NotEqual)
+}
+
+// The conditions of a `context` line.
+pub fn tests(out: &mut String, names: &Names<'_>, tests: &[Compare]) -> Result<(), AllocError>
+    ensures { OnOk result (Adds (string_bytes out.old) (string_bytes out.new) (tests_added (seen names.now) tests.now)) }
+{
+    match tests {
+        [] => Ok(()),
         [c, rest @ ..] => {
-            cond(out, prelude, names, c)?;
+            test(out, names, c)?;
             for c in rest {
                 push(out, " && ")?;
-                cond(out, prelude, names, c)?;
+                test(out, names, c)?;
             }
             Ok(())
         }
     }
 }
+
+// ---- Statements
 
 // Two spaces for each level.
 #[tactic(auto, using(crate::proofs::Chains::indent_more))]
@@ -191,6 +333,14 @@ fn end(out: &mut String, level: usize) -> Result<(), AllocError>
     push(out, "}\n")
 }
 
+// The end of a body behind which the other of an `if` stands.
+fn before_other(out: &mut String, level: usize) -> Result<(), AllocError>
+    ensures { OnOk result (Adds (string_bytes out.old) (string_bytes out.new) (indent level then codes "} else {\n")) }
+{
+    indent(out, level)?;
+    push(out, "} else {\n")
+}
+
 fn deeper(level: usize) -> Result<usize, AllocError>
     ensures { IfOk result (λ n. n ≡ level + 1) }
 {
@@ -231,16 +381,11 @@ fn loop_head<'a>(
 }
 
 // What stands before the body of an `if`.
-fn if_head(
-    out: &mut String,
-    prelude: bool,
-    names: &Names<'_>,
-    cs: &[Compare],
-) -> Result<(), AllocError>
-    ensures { OnOk result (Adds (string_bytes out.old) (string_bytes out.new) (codes "if (" ++ (conds_layout (conds_text prelude (seen names.now) cs.now) ++ codes ") {\n"))) }
+fn if_head(out: &mut String, prelude: bool, names: &Names<'_>, c: &Cond) -> Result<(), AllocError>
+    ensures { OnOk result (Adds (string_bytes out.old) (string_bytes out.new) (if_layout prelude (seen names.now) c.now)) }
 {
     push(out, "if (")?;
-    conds(out, prelude, names, cs)?;
+    cond(out, prelude, names, c, Standing::Alone)?;
     push(out, ") {\n")
 }
 
@@ -284,10 +429,19 @@ pub fn stmt<'a>(
             restore(names, held);
             end(out, level)
         }
-        Stmt::If { conds: cs, body } => {
+        Stmt::If {
+            cond: c,
+            body,
+            other,
+        } => {
             let inner = deeper(level)?;
-            if_head(out, prelude, names, cs.as_slice())?;
+            if_head(out, prelude, names, c)?;
             stmts(out, prelude, names, body.as_slice(), inner)?;
+            if other.as_slice().is_empty() {
+                return end(out, level);
+            }
+            before_other(out, level)?;
+            stmts(out, prelude, names, other.as_slice(), inner)?;
             end(out, level)
         }
         Stmt::Assign {

@@ -7,11 +7,12 @@ use Rattle.affc_ast.specs.declared.tree.Compare.{Compare}
 use Rattle.affc_ast.specs.declared.tree.Param.{Param}
 use Rattle.affc_ast.specs.declared.tree.Param.TheVariants.{Number, Array}
 use Rattle.affc_ast.specs.declared.tree.Program.{Program}
+use Rattle.affc_ast.specs.Fits.{all_true}
 use Rattle.affc_grammar.specs.declared.fault.LimitName.{LimitName}
 use Rattle.affc_grammar.specs.Grammar.{PragmasText, no_pragmas, and_range, line_feed, include_symbols, pragmas_symbols, context_calls}
 use Rattle.affc_grammar.specs.Draft.{PragmaDraft, range, context, TextDraft, int_value, pragmas_draft, text_draft}
 use Rattle.affc_grammar.specs.Names.{program_tree}
-use Rattle.affc_grammar.specs.Limits.{Assigned, passed_at, at_if, wide_limits, passed, assigned, affine_texts, number_words, param_decls, is_range, ranges_past, loops_past, literals_past, products_of_names}
+use Rattle.affc_grammar.specs.Limits.{no_round, Assigned, passed_at, at_if, wide_limits, passed, assigned, affine_texts, number_words, param_decls, is_range, ranges_past, loops_past, divisors_past, literals_past, products_of_names}
 use Rattle.affc_grammar.specs.Printed.{Names, printed, int_text, ranges_text, context_text, params_text, with_pragmas, holding}
 use Rattle.affc_grammar.specs.Reads.{WellNamed}
 use Rattle.affc_cprint.specs.Layout.{pragmas_of}
@@ -19,7 +20,7 @@ use Rattle.affc_cprint.specs.Forms.{is_none, program_passes}
 use Rattle.affc_wellnamed.specs.Known.{number_count, program_known}
 use Rattle.affc_wellnamed.specs.Plain.{is_plain}
 use Rattle.affc_wellnamed.specs.Shape.{program_shape, is_bounded as shape_bounded}
-use Rattle.affc_wellnamed.specs.Work.{no_work, stmts_behind, has_few, param_fits, program_fits, is_bounded}
+use Rattle.affc_wellnamed.specs.Work.{no_work, stmts_behind, stmt_fits, has_few, param_fits, program_fits, is_bounded}
 use Rattle.affc_wellnamed.specs.Kept.{is_kept}
 use Rattle.affc_cprint.proofs.Places.{some_held}
 use Rattle.affc_cprint.proofs.Parts.{ProgramParts, program_parts}
@@ -31,6 +32,7 @@ use Rattle.affc_wellnamed.proofs.Literals.{plain_is}
 use Rattle.affc_wellnamed.proofs.KnownPrograms.{Spoken, program_speaks}
 use Rattle.affc_wellnamed.proofs.KnownFromTexts.{program_from}
 use Rattle.affc_wellnamed.proofs.ShapePrograms.{shape_kept, shape_so, kept_below, below_kept, no_faults, none_of_both}
+use Rattle.affc_wellnamed.proofs.Remainders.{stmts_small}
 use Rattle.affc_wellnamed.proofs.Works.{Busy, many, stmts_busy, contexts_within, contexts_few, wide, temps_few, few_temps, params_few, few_params, numbers_are}
 
 -- ---- Lists of places
@@ -120,7 +122,7 @@ module _ (d : TextDraft) (p : Program) (reads : program_tree d ≡ Ok p) where
   abbrev parts : ProgramParts d p
   parts = program_parts d p reads
 
-  abbrev busy : Busy (λ n. assigned n d.body) (λ limit n. loops_past limit n d.body) (stmts_behind no_work p.body)
+  abbrev busy : Busy (λ r. assigned r d.body) (λ limit n. loops_past limit n d.body) (stmts_behind no_work p.body)
   busy = stmts_busy parts.inner d.body p.body parts.body
 
   abbrev literals : List ℕ
@@ -129,35 +131,40 @@ module _ (d : TextDraft) (p : Program) (reads : program_tree d ≡ Ok p) where
   limits_kept : ranges_past d.pragmas ≡ [] → literals ≡ [] → program_fits p ≡ true → passed wide_limits d ≡ []
   limits_kept ranges none h =
       let w = stmts_behind no_work p.body in
-      let a = and_parts (nat_le (number_count p.params) 4 && nat_le (length p.context) 16) ((list_all param_fits p.params && list_all has_few p.temps) && is_bounded w) h in
+      let a = and_parts (nat_le (number_count p.params) 4 && nat_le (length p.context) 16) ((list_all param_fits p.params && list_all has_few p.temps) && (is_bounded w && all_true (map stmt_fits p.body))) h in
       let b = and_parts (nat_le (number_count p.params) 4) (nat_le (length p.context) 16) a.0 in
-      let c = and_parts (list_all param_fits p.params && list_all has_few p.temps) (is_bounded w) a.1 in
+      let c = and_parts (list_all param_fits p.params && list_all has_few p.temps) (is_bounded w && all_true (map stmt_fits p.body)) a.1 in
+      let n = and_parts (is_bounded w) (all_true (map stmt_fits p.body)) c.1 in
       let e = and_parts (list_all param_fits p.params) (list_all has_few p.temps) c.0 in
-      let f = and_parts (nat_le w.statements 64 && nat_le w.loops wide_limits.loops) (if w.crowded then false else true) c.1 in
+      let f = and_parts (nat_le w.statements 64 && nat_le w.loops wide_limits.loops) (if w.crowded then false else true) n.0 in
       let g = and_parts (nat_le w.statements 64) (nat_le w.loops wide_limits.loops) f.0 in
       let count = numbers_are _ d.pragmas d.params p.params parts.params in
       let four = leb-true (number_count p.params) 4 b.0 in
       let sixteen = leb-true (length p.context) 16 b.1 in
-      let statements = kept_below (length (assigned 0 d.body)) w.statements 64 (busy.statements 0) (omega arith) g.0 in
+      let statements = kept_below (length (assigned no_round d.body)) w.statements 64 (busy.statements no_round) (omega arith) g.0 in
       let loops = kept_below busy.nest w.loops wide_limits.loops busy.loops (omega arith) g.1 in
-      let mapped = length-map (assigned 0 d.body) (λ (x : Assigned). x.at) in
-      both_none (both_none (both_none (both_none (both_none (both_none (both_none (both_none (both_none (both_none
+      let mapped = length-map (assigned no_round d.body) (λ (x : Assigned). x.at) in
+      both_none (both_none (both_none (both_none (both_none (both_none (both_none (both_none (both_none (both_none (both_none (both_none
       (at_none _ _ (drop_all 4 (number_words d.params) (omega (arith, count, four))))
       (at_none _ _ ranges))
       (at_none _ _ (busy.beyond wide_limits.loops 0 (omega (arith, loops)))))
-      (at_none _ _ (drop_all 64 (map (λ x. x.at) (assigned 0 d.body)) (omega (arith, mapped, statements)))))
+      (at_none _ _ (drop_all 64 (map (λ x. x.at) (assigned no_round d.body)) (omega (arith, mapped, statements)))))
       refl)
-      (at_none _ _ (ap (map (λ x. x.at)) (none_many (assigned 0 d.body) (sym (busy.crowded 0) ∙ not_crowded w.crowded f.1)))))
+      (at_none _ _ (ap (map (λ x. x.at)) (none_many (assigned no_round d.body) (sym (busy.crowded no_round) ∙ not_crowded w.crowded f.1)))))
       (at_none _ _ (ap (map (λ x. x.word.at)) (filter_both wide (param_decls d.params) d.temps ∙ both_none (params_few _ d.pragmas d.params p.params parts.params e.0) (temps_few _ d.temps (p.temps, parts.inner) parts.temps e.1)))))
       (at_none _ _ (contexts_within _ [] d.pragmas p.context 0 parts.context (omega (arith, sixteen)))))
-      (at_none _ _ (ap (map (λ x. x.at)) (never_kept (assigned 0 d.body)))))
+      (at_none _ _ (ap (map (λ x. x.at)) (never_kept (assigned no_round d.body)))))
       (at_none _ _ none))
-      refl
+      refl)
+      (at_none _ _ (none_is (divisors_past wide_limits.divisor d.body) (stmts_small parts.inner d.body p.body parts.body ∙ n.1))))
+      (at_none _ _ (ap (map (λ x. x.at)) (never_kept (assigned no_round d.body))))
 
   limits_so : passed wide_limits d ≡ [] → (program_fits p ≡ true) × (literals ≡ [])
   limits_so e =
       let w = stmts_behind no_work p.body in
-      let e1 = none_of_both _ _ e in
+      let d1 = none_of_both _ _ e in
+      let d2 = none_of_both _ _ d1.0 in
+      let e1 = none_of_both _ _ d2.0 in
       let e2 = none_of_both _ _ e1.0 in
       let e3 = none_of_both _ _ e2.0 in
       let e4 = none_of_both _ _ e3.0 in
@@ -172,14 +179,15 @@ module _ (d : TextDraft) (p : Program) (reads : program_tree d ≡ Ok p) where
       let count = numbers_are _ d.pragmas d.params p.params parts.params in
       let four = few_dropped 4 (number_words d.params) (no_faults _ _ e10.0) in
       let sixteen = contexts_few _ [] d.pragmas p.context 0 (omega arith) parts.context (no_faults _ _ e4.1) in
-      let mapped = length-map (assigned 0 d.body) (λ (x : Assigned). x.at) in
-      let statements = few_dropped 64 (map (λ x. x.at) (assigned 0 d.body)) (no_faults _ _ e8.1) in
+      let mapped = length-map (assigned no_round d.body) (λ (x : Assigned). x.at) in
+      let statements = few_dropped 64 (map (λ x. x.at) (assigned no_round d.body)) (no_faults _ _ e8.1) in
       let loops = busy.within wide_limits.loops 0 (omega arith) (no_faults _ _ e9.1) in
-      let free : w.crowded ≡ false = busy.crowded 0 ∙ many_none (assigned 0 d.body) (no_faults _ _ (no_faults _ _ e6.1)) in (
+      let small : all_true (map stmt_fits p.body) ≡ true = sym (stmts_small parts.inner d.body p.body parts.body) ∙ ap is_none (no_faults _ _ d2.1) in
+      let free : w.crowded ≡ false = busy.crowded no_round ∙ many_none (assigned no_round d.body) (no_faults _ _ (no_faults _ _ e6.1)) in (
         and_from _ _ (and_from _ _ (le-leb (number_count p.params) 4 (omega (arith, count, four))) (le-leb (length p.context) 16 (omega (arith, sixteen))))
             (and_from _ _ (and_from _ _ (few_params _ d.pragmas d.params p.params ranges parts.params wides.0) (few_temps _ d.temps (p.temps, parts.inner) parts.temps wides.1))
-            (and_from _ _ (and_from _ _ (below_kept (length (assigned 0 d.body)) w.statements 64 (busy.statements 0) (omega (arith, mapped, statements))) (below_kept busy.nest w.loops wide_limits.loops busy.loops (omega (arith, loops))))
-            (ap (λ b. if b then false else true) free))),
+            (and_from _ _ (and_from _ _ (and_from _ _ (below_kept (length (assigned no_round d.body)) w.statements 64 (busy.statements no_round) (omega (arith, mapped, statements))) (below_kept busy.nest w.loops wide_limits.loops busy.loops (omega (arith, loops))))
+            (ap (λ b. if b then false else true) free)) small)),
         no_faults _ _ e2.1,
       )
 
@@ -194,8 +202,8 @@ kept_is_well_named p h =
     let text = printed_again p s.calls s.back in
     let d = text_draft (printed p) in
     let plain = and_parts (is_none (products_of_names d)) (is_none (flat_map (literals_past wide_limits.literal) (affine_texts d))) (sym (plain_is d p text.reads) ∙ b.0) in
-    let e = and_parts (nat_le (number_count p.params) 4 && nat_le (length p.context) 16) ((list_all param_fits p.params && list_all has_few p.temps) && is_bounded (stmts_behind no_work p.body)) c.0 in
-    let f = and_parts (list_all param_fits p.params && list_all has_few p.temps) (is_bounded (stmts_behind no_work p.body)) e.1 in
+    let e = and_parts (nat_le (number_count p.params) 4 && nat_le (length p.context) 16) ((list_all param_fits p.params && list_all has_few p.temps) && (is_bounded (stmts_behind no_work p.body) && all_true (map stmt_fits p.body))) c.0 in
+    let f = and_parts (list_all param_fits p.params && list_all has_few p.temps) (is_bounded (stmts_behind no_work p.body) && all_true (map stmt_fits p.body)) e.1 in
     let g = and_parts (list_all param_fits p.params) (list_all has_few p.temps) f.0 in
     let at = length (include_symbols line_feed) in
     let ranges : ranges_past d.pragmas ≡ [] = ap ranges_past (draft_lines p s) ∙ context_none (params_text true p.params).1 (ranges_text no_pragmas p.params) at p.context (ranges_within no_pragmas at refl p.params g.0) in

@@ -6,7 +6,6 @@ use Rattle.affc_ast.specs.declared.tree.NameId.{NameId}
 use Rattle.affc_ast.specs.declared.tree.ArrayId.{ArrayId}
 use Rattle.affc_ast.specs.declared.tree.Op.{Op}
 use Rattle.affc_ast.specs.declared.tree.Rel.{Rel}
-use Rattle.affc_ast.specs.declared.tree.Compare.{Compare}
 use Rattle.affc_ast.specs.declared.tree.Local.{Local}
 use Rattle.affc_ast.specs.declared.tree.Ix.{Ix}
 use Rattle.affc_ast.specs.declared.tree.Ix.TheVariants as ix
@@ -14,6 +13,12 @@ use Rattle.affc_ast.specs.declared.tree.Ix.TheBlock.{more_of-Ix, end_of-Ix, shap
 use Rattle.affc_ast.specs.declared.tree.Val.{Val}
 use Rattle.affc_ast.specs.declared.tree.Val.TheVariants as val
 use Rattle.affc_ast.specs.declared.tree.Val.TheBlock.{more_of-Val, end_of-Val, shape-the_row-Val-0, hidden-the_row-Val-0}
+use Rattle.affc_ast.specs.declared.tree.Cond.{Cond, Cond-F, ind-Cond, map-Cond, roll-Cond}
+use Rattle.affc_ast.specs.declared.tree.Cond.TheVariants as cond
+use Rattle.affc_ast.specs.declared.tree.Cond.TheVariants.{rolls-Compare, rolls-All, rolls-Any, rolls-Divides}
+use Rattle.affc_ast.specs.declared.tree.Cond.TheBlock.{the_family as cond_family, member-Cond}
+use Rattle.affc_ast.specs.declared.tree.Cond.TheFolds.{claims as cond_claims}
+use Rattle.affc_ast.specs.declared.tree.Cond.TheOpen as cond_layer
 use Rattle.affc_ast.specs.declared.tree.Stmt.{Stmt, Stmt-F, ind-Stmt, map-Stmt, roll-Stmt}
 use Rattle.affc_ast.specs.declared.tree.Stmt.TheVariants as stmt
 use Rattle.affc_ast.specs.declared.tree.Stmt.TheVariants.{rolls-For, rolls-If, rolls-Assign, rolls-Block}
@@ -66,9 +71,32 @@ every_val P c (val.Not' s (more_of-Val a end_of-Val)) = c.not a (every_val P c a
 every_val P c (val.Bin' op s (more_of-Val a end_of-Val) t (more_of-Val b end_of-Val)) = c.bin op a b (every_val P c a) (every_val P c b)
 every_val P c (val.Shift' left s (more_of-Val a end_of-Val) by) = c.shift left a by (every_val P c a)
 
+pub record CondCases (P : Cond → Type 0) : Type 0 where
+  pub compare : (rel : Rel) (left right : Ix) → P (cond.Compare rel left right)
+  pub all : (cs : List Cond) → Each P cs → P (cond.All cs)
+  pub any : (cs : List Cond) → Each P cs → P (cond.Any cs)
+  pub divides : (value : Ix) (by : ℤ) (so : Bool) → P (cond.Divides value by so)
+
+-- a condition of which it holds
+abbrev HeldCond : (Cond → Type 0) → Type 0
+HeldCond P = Such cond_family (cond_claims P) member-Cond
+
+each_cond : (P : Cond → Type 0) (ys : List (HeldCond P)) → Each P (map (λ y. y.0) ys)
+each_cond P [] = tt
+each_cond P (y ∷ ys) = (y.1, each_cond P ys)
+
+of_cond_layer : (P : Cond → Type 0) → CondCases P → (y : Cond-F (HeldCond P)) → P (roll-Cond (map-Cond (HeldCond P) Cond (λ z. z.0) y))
+of_cond_layer P c (cond_layer.Compare rel left right) = subst P (sym (rolls-Compare rel left right)) (c.compare rel left right)
+of_cond_layer P c (cond_layer.All cs) = subst P (sym (rolls-All (map (λ y. y.0) cs))) (c.all (map (λ y. y.0) cs) (each_cond P cs))
+of_cond_layer P c (cond_layer.Any cs) = subst P (sym (rolls-Any (map (λ y. y.0) cs))) (c.any (map (λ y. y.0) cs) (each_cond P cs))
+of_cond_layer P c (cond_layer.Divides value by so) = subst P (sym (rolls-Divides value by so)) (c.divides value by so)
+
+pub every_cond : (P : Cond → Type 0) → CondCases P → (x : Cond) → P x
+every_cond P c x = ind-Cond P (λ z y e. subst (λ w. P (roll-Cond w)) e (of_cond_layer P c y)) x
+
 pub record StmtCases (P : Stmt → Type 0) : Type 0 where
   pub loop : (iter : List ℕ) (low : Ix) (rel : Rel) (high : Ix) (body : List Stmt) → Each P body → P (stmt.For iter low rel high body)
-  pub test : (cs : List Compare) (body : List Stmt) → Each P body → P (stmt.If cs body)
+  pub test : (x : Cond) (body other : List Stmt) → Each P body → Each P other → P (stmt.If x body other)
   pub assign : (op : Option Op) (id : ArrayId) (subs : List Ix) (v : Val) → P (stmt.Assign op id subs v)
   pub block : (ls : List Local) (body : List Stmt) → Each P body → P (stmt.Block ls body)
 
@@ -82,7 +110,7 @@ each_held P (y ∷ ys) = (y.1, each_held P ys)
 
 of_layer : (P : Stmt → Type 0) → StmtCases P → (y : Stmt-F (Held P)) → P (roll-Stmt (map-Stmt (Held P) Stmt (λ z. z.0) y))
 of_layer P c (layer.For iter low rel high body) = subst P (sym (rolls-For iter low rel high (map (λ y. y.0) body))) (c.loop iter low rel high (map (λ y. y.0) body) (each_held P body))
-of_layer P c (layer.If cs body) = subst P (sym (rolls-If cs (map (λ y. y.0) body))) (c.test cs (map (λ y. y.0) body) (each_held P body))
+of_layer P c (layer.If x body other) = subst P (sym (rolls-If x (map (λ y. y.0) body) (map (λ y. y.0) other))) (c.test x (map (λ y. y.0) body) (map (λ y. y.0) other) (each_held P body) (each_held P other))
 of_layer P c (layer.Assign op id subs v) = subst P (sym (rolls-Assign op id subs v)) (c.assign op id subs v)
 of_layer P c (layer.Block ls body) = subst P (sym (rolls-Block ls (map (λ y. y.0) body))) (c.block ls (map (λ y. y.0) body) (each_held P body))
 

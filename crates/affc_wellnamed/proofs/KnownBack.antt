@@ -1,19 +1,21 @@
 -- What is known of a tree is printed as a text that reads as it, and whose tokens a text can have: expressions, values and statements.
-use Rattle.std.proofs.Common.{◌≡◌, ◌⊎◌, inl, inr, ℕ, ◌+◌, ◌^◌, ◌<◌, ◌&&◌, ◌||◌, ◌==◌, nat_le, nat_lt, Bool, true, false, not, List, [], ◌∷◌, ◌++◌, length, Option, Some, None, Ok, ℤ, pos, negsuc, int_le, IsTrue, refl, sym, ap, subst, ◌∙◌, arith, append_assoc, codes, slice_get, length-append}
+use Rattle.std.proofs.Common.{◌≡◌, ◌⊎◌, inl, inr, ℕ, ◌+◌, ◌^◌, ◌<◌, ◌≤◌, ◌&&◌, ◌||◌, ◌==◌, nat_le, nat_lt, Bool, true, false, not, List, [], ◌∷◌, ◌++◌, length, map, Option, Some, None, Ok, ℤ, pos, negsuc, int_le, IsTrue, refl, sym, ap, subst, ◌∙◌, arith, append_assoc, codes, slice_get, length-append}
 use Rattle.std.specs.List.{list_any}
 use Rattle.std.proofs.lemmas.Bool.{and_parts, false≢true, ltb-true, leb-true}
 use Rattle.std.proofs.lemmas.List.Folds.{list_any-append}
-use Rattle.std.proofs.lemmas.List.{append-nil}
+use Rattle.std.proofs.lemmas.List.{append-nil, length-map}
 use Rattle.affc_lex.specs.Bytes.{same}
 use Rattle.affc_lex.specs.Pieces.{is_word}
 use Rattle.affc_ast.specs.declared.tree.NameId.{NameId}
 use Rattle.affc_ast.specs.declared.tree.ArrayId.{ArrayId}
 use Rattle.affc_ast.specs.declared.tree.Op.{Op}
 use Rattle.affc_ast.specs.declared.tree.Rel.{Rel}
-use Rattle.affc_ast.specs.declared.tree.Rel.TheVariants.{Less, LessEqual, Greater, GreaterEqual, Equal}
+use Rattle.affc_ast.specs.declared.tree.Rel.TheVariants.{Less, LessEqual, Greater, GreaterEqual, Equal, NotEqual}
 use Rattle.affc_ast.specs.declared.tree.Role.{Role}
 use Rattle.affc_ast.specs.declared.tree.Decl.{Decl}
 use Rattle.affc_ast.specs.declared.tree.Compare.{Compare}
+use Rattle.affc_ast.specs.declared.tree.Cond.{Cond}
+use Rattle.affc_ast.specs.declared.tree.Cond.TheVariants as cond
 use Rattle.affc_ast.specs.declared.tree.Local.{Local}
 use Rattle.affc_ast.specs.declared.tree.Ix.{Ix}
 use Rattle.affc_ast.specs.declared.tree.Ix.TheVariants as ix
@@ -23,6 +25,7 @@ use Rattle.affc_ast.specs.declared.tree.Val.TheVariants as val
 use Rattle.affc_ast.specs.declared.tree.Val.TheOpen.{Val-F}
 use Rattle.affc_ast.specs.declared.tree.Stmt.{Stmt}
 use Rattle.affc_ast.specs.declared.tree.Stmt.TheVariants as stmt
+use Rattle.affc_ast.specs.Joined.{is_ordered}
 use Rattle.affc_ast.specs.Recursion.{by_val}
 use Rattle.affc_grammar.specs.Grammar.{Name, minimum, maximum, remainder, down, up, mark, complement, load, cast, ix_symbols, dims_symbols}
 use Rattle.affc_grammar.specs.declared.fault.NameWhy.TheVariants.{Reserved, Const, Kind}
@@ -32,17 +35,18 @@ use Rattle.affc_grammar.specs.Printed.{Names, number_name, array_name, and_numbe
 use Rattle.affc_cprint.specs.Statements.{with_locals}
 use Rattle.affc_cprint.specs.Forms.{is_none}
 use Rattle.affc_wellnamed.specs.Known as spec
-use Rattle.affc_wellnamed.specs.Known.{Known, and_iterator, and_locals, is_new, is_numeral, is_divisor, ix_known, ixs_known, compares_known, takes, value_known, is_bound, local_known, locals_known, for_known, if_known, block_known, stmt_known, stmts_known}
-use Rattle.affc_cprint.proofs.Nodes.{neg_here, add_here, sub_here, mul_here, min_here, max_here, mod_here, floord_here, ceild_here}
-use Rattle.affc_cprint.proofs.Arms.{for_here, if_here, block_here}
+use Rattle.affc_wellnamed.specs.Known.{Known, and_iterator, and_locals, is_new, is_numeral, is_divisor, ix_known, ixs_known, compare_known, compares_known, CondKnown, each_known, joined_known, cond_seen, cond_known, takes, value_known, is_bound, local_known, locals_known, for_known, block_known, stmt_known, stmts_known}
+use Rattle.affc_ast.proofs.Steps.{neg_here, add_here, sub_here, mul_here, min_here, max_here, mod_here, floord_here, ceild_here, all_here, any_here, for_here, if_here, block_here, not_here, bin_here, shift_here}
 use Rattle.affc_cprint.proofs.Spelled.{off, stand_both, IsName, symbol_of_name}
 use Rattle.affc_cprint.proofs.Sees.{then_is, not_static}
 use Rattle.affc_cprint.proofs.ReadBack.{IsBack, add_back, sub_back, mul_back, neg_back, lit_back, name_back, choice_back, rounding_back}
-use Rattle.affc_cprint.proofs.ReadBackValues.{Each, each_length, AreBack, AreComparesBack, dims_again, conds_again, not_here, bin_here, shift_here, IsValueBack, ValueBack, primary_back, shift_back, both_back, shift_reads, constant_back}
+use Rattle.affc_cprint.proofs.ReadBackValues.{Each, each_length, AreBack, AreComparesBack, dims_again, IsValueBack, ValueBack, primary_back, shift_back, both_back, shift_reads, constant_back}
+use Rattle.affc_cprint.proofs.ReadBackConditions.{IsCondBack, IsConjunct, IsDisjunct, all_again, any_again, compare_again, divides_again}
 use Rattle.affc_cprint.proofs.ReadBackStatements.{LocalsBack, StmtBack, scope_after, declared_name, for_again, if_again, block_again, assign_again}
 use Rattle.affc_cprint.proofs.Products.{none_is}
 use Rattle.affc_wellnamed.proofs.Knows.{NumberAt, ArrayAt, Knows, new_is, knows_number}
-use Rattle.affc_wellnamed.proofs.Induction.{IxCases, every_ix, ValCases, every_val, every_stmt}
+use Rattle.affc_wellnamed.proofs.Induction.{IxCases, every_ix, ValCases, every_val, CondCases, every_cond, every_stmt}
+use Rattle.affc_wellnamed.proofs.Joints.{all_is, any_is}
 
 -- ---- Numbers
 
@@ -126,9 +130,64 @@ module _ (prelude : Bool) (known : Known) (scope : Scope) (names : Names) (k : K
   pub compares_speak : (cs : List Compare) → compares_known known cs ≡ true → AreComparesBack prelude scope names k.sees cs
   compares_speak [] h = tt
   compares_speak (c ∷ cs) h =
-      let p = and_parts (ix_known known c.left && ix_known known c.right) (compares_known known cs) h in
-      let q = and_parts (ix_known known c.left) (ix_known known c.right) p.0 in
-      ((ix_speaks c.left q.0, ix_speaks c.right q.1), compares_speak cs p.1)
+      let p = and_parts (compare_known known c) (compares_known known cs) h in
+      let r = and_parts (is_ordered c.rel) (ix_known known c.left && ix_known known c.right) p.0 in
+      let q = and_parts (ix_known known c.left) (ix_known known c.right) r.1 in
+      ((ix_speaks c.left q.0, ix_speaks c.right q.1, r.0), compares_speak cs p.1)
+
+  -- ---- Conditions
+
+  abbrev Claims : Cond → Type 0
+  Claims x = cond_known known x ≡ true → IsCondBack prelude scope names x
+
+  conjuncts_speak : (cs : List Cond) → Each Claims cs → each_known true (map (cond_seen known) cs) ≡ true → Each (IsConjunct prelude scope names) cs
+  conjuncts_speak [] f h = tt
+  conjuncts_speak (c ∷ cs) f h =
+      let p = and_parts (not (cond_seen known c).is_all && cond_known known c) (each_known true (map (cond_seen known) cs)) h in
+      let q = and_parts (not (cond_seen known c).is_all) (cond_known known c) p.0 in
+      ((f.0 q.1, sym (all_is known c) ∙ off (cond_seen known c).is_all q.0), conjuncts_speak cs f.1 p.1)
+
+  disjuncts_speak : (cs : List Cond) → Each Claims cs → each_known false (map (cond_seen known) cs) ≡ true → Each (IsDisjunct prelude scope names) cs
+  disjuncts_speak [] f h = tt
+  disjuncts_speak (c ∷ cs) f h =
+      let p = and_parts (not (cond_seen known c).is_any && cond_known known c) (each_known false (map (cond_seen known) cs)) h in
+      let q = and_parts (not (cond_seen known c).is_any) (cond_known known c) p.0 in
+      ((f.0 q.1, sym (any_is known c) ∙ off (cond_seen known c).is_any q.0), disjuncts_speak cs f.1 p.1)
+
+  are_two : (cs : List Cond) → nat_le 2 (length (map (cond_seen known) cs)) ≡ true → 2 ≤ length cs
+  are_two cs h =
+      let l = length-map cs (cond_seen known) in
+      let two = leb-true 2 (length (map (cond_seen known) cs)) h in
+      omega (arith, l, two)
+
+  all_speaks : (cs : List Cond) → Each Claims cs → Claims (cond.All cs)
+  all_speaks cs f h =
+      let joined : joined_known true (map (cond_seen known) cs) ≡ true = ap (λ (s : CondKnown). s.is_known) (sym (all_here (spec.cond_step known) cs)) ∙ h in
+      let p = and_parts (nat_le 2 (length (map (cond_seen known) cs))) (each_known true (map (cond_seen known) cs)) joined in
+      all_again prelude scope names cs (are_two cs p.0) (conjuncts_speak cs f p.1)
+
+  any_speaks : (cs : List Cond) → Each Claims cs → Claims (cond.Any cs)
+  any_speaks cs f h =
+      let joined : joined_known false (map (cond_seen known) cs) ≡ true = ap (λ (s : CondKnown). s.is_known) (sym (any_here (spec.cond_step known) cs)) ∙ h in
+      let p = and_parts (nat_le 2 (length (map (cond_seen known) cs))) (each_known false (map (cond_seen known) cs)) joined in
+      any_again prelude scope names cs (are_two cs p.0) (disjuncts_speak cs f p.1)
+
+  divides_speaks : (value : Ix) (by : ℤ) (so : Bool) → Claims (cond.Divides value by so)
+  divides_speaks value by so h =
+      let p = and_parts (is_divisor by) (ix_known known value) h in
+      let d = divisor_is by p.0 in
+      subst (λ z. IsCondBack prelude scope names (cond.Divides value z so)) (sym d.1) (divides_again prelude scope names k.sees value d.0 so d.2 d.3 (ix_speaks value p.1))
+
+  cond_cases : CondCases Claims
+  cond_cases = record {
+    compare = λ rel left right h. let p = and_parts (ix_known known left) (ix_known known right) h in compare_again prelude scope names k.sees rel left right (ix_speaks left p.0) (ix_speaks right p.1);
+    all = all_speaks;
+    any = any_speaks;
+    divides = divides_speaks;
+  }
+
+  cond_speaks : (x : Cond) → Claims x
+  cond_speaks x = every_cond Claims cond_cases x
 
   abbrev Tells : Val → Type 0
   Tells v = value_known known v ≡ true → IsValueBack prelude scope names k.sees v
@@ -225,6 +284,7 @@ bound_is LessEqual h = (false, refl)
 bound_is Greater h = absurd (false≢true h)
 bound_is GreaterEqual h = absurd (false≢true h)
 bound_is Equal h = absurd (false≢true h)
+bound_is NotEqual h = absurd (false≢true h)
 
 pub some_is : {A : Type 0} (xs : List A) → not (is_none xs) ≡ true → xs ≡ [] → ⊥
 some_is [] h e = false≢true h
@@ -260,13 +320,12 @@ module _ (prelude : Bool) where
       for_again prelude scope names iter low rel high body b.0 n.1 (name_declared scope true iter n) (ix_speaks prelude known scope names k (calls_on known p) low u.0) (ix_speaks prelude known scope names k (calls_on known p) high u.1) b.1
       (each_says (and_iterator known iter) (with_number true scope iter) (and_number names iter) next p q body f r.1)
 
-  test_says : (cs : List Compare) (body : List Stmt) → Each Says body → Says (stmt.If cs body)
-  test_says cs body f known scope names k p q h =
-      let whole : (if_known known cs && stmts_known known body) ≡ true = ap (λ (g : Known → Bool). g known) (sym (if_here spec.stmt_step cs body)) ∙ h in
-      let r = and_parts (if_known known cs) (stmts_known known body) whole in
-      let s = and_parts (not (is_none cs)) (compares_known known cs) r.0 in
-      if_again prelude scope names k.sees cs body (conds_again prelude scope names k.sees cs (compares_speak prelude known scope names k (calls_on known p) cs s.1) (some_is cs s.0))
-      (each_says known scope names k p q body f r.1)
+  test_says : (x : Cond) (body other : List Stmt) → Each Says body → Each Says other → Says (stmt.If x body other)
+  test_says x body other f g known scope names k p q h =
+      let whole : (cond_known known x && (stmts_known known body && stmts_known known other)) ≡ true = ap (λ (w : Known → Bool). w known) (sym (if_here spec.stmt_step x body other)) ∙ h in
+      let r = and_parts (cond_known known x) (stmts_known known body && stmts_known known other) whole in
+      let s = and_parts (stmts_known known body) (stmts_known known other) r.1 in
+      if_again prelude scope names x body other (cond_speaks prelude known scope names k (calls_on known p) x r.0) (each_says known scope names k p q body f s.0) (each_says known scope names k p q other g s.1)
 
   assign_says : (op : Option Op) (id : ArrayId) (subs : List Ix) (v : Val) → Says (stmt.Assign op id subs v)
   assign_says op id subs v known scope names k p q h =

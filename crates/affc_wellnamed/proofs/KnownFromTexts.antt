@@ -6,6 +6,7 @@ use Rattle.affc_lex.specs.Pieces.{is_word}
 use Rattle.affc_ast.specs.Names.{is_reserved}
 use Rattle.affc_ast.specs.declared.tree.Role.TheVariants.{Temp}
 use Rattle.affc_ast.specs.declared.tree.Compare.{Compare}
+use Rattle.affc_ast.specs.Joined.{is_ordered}
 use Rattle.affc_ast.specs.declared.tree.Decl.{Decl}
 use Rattle.affc_ast.specs.declared.tree.Ix.{Ix}
 use Rattle.affc_ast.specs.declared.tree.Local.{Local}
@@ -15,18 +16,17 @@ use Rattle.affc_ast.specs.declared.tree.Program.{Program}
 use Rattle.affc_ast.specs.declared.tree.Stmt.{Stmt}
 use Rattle.affc_ast.specs.declared.tree.Stmt.TheVariants as stmt
 use Rattle.affc_grammar.specs.declared.fault.NameWhy.TheVariants.{Reserved}
-use Rattle.affc_grammar.specs.Grammar.{Name, word, mark, bound_mark, assign_mark, IxText, DimsText, LocalsText, no_locals, and_local, StmtsText, no_stmts, and_stmt, StmtText, simple, block, SimpleText, for_loop, if_all, assign, BodyText, braces, bare, ParamText, number_param, array_param, Text, ix_symbols, dims_symbols, dim_symbols, conds_symbols, value_symbols, step_symbols, locals_symbols, stmts_symbols, stmt_symbols, simple_symbols, body_symbols, const_symbols, param_symbols, params_symbols, decls_symbols, include_symbols, pragmas_symbols, prelude_symbols, function_symbols, text_symbols, context_calls}
+use Rattle.affc_grammar.specs.Grammar.{Name, word, mark, bound_mark, assign_mark, IxText, DimsText, LocalsText, no_locals, and_local, StmtsText, no_stmts, and_stmt, StmtText, simple, block, SimpleText, for_loop, if_then, if_else, assign, BodyText, braces, bare, ParamText, number_param, array_param, Text, ix_symbols, dims_symbols, dim_symbols, cond_symbols, value_symbols, step_symbols, locals_symbols, stmts_symbols, stmt_symbols, simple_symbols, body_symbols, const_symbols, param_symbols, params_symbols, decls_symbols, include_symbols, pragmas_symbols, prelude_symbols, function_symbols, text_symbols, context_calls}
 use Rattle.affc_grammar.specs.Draft as draft
-use Rattle.affc_grammar.specs.Draft.{LocalDraft, DeclDraft, ParamDraft, PragmaDraft, word_draft, ix_draft, dims_draft, conds_draft, value_draft, locals_draft, head_draft, head_length, bound_rel, stmts_draft, stmt_draft, simple_draft, body_draft, param_draft, temp_draft, array_role, pragmas_draft, text_draft}
-use Rattle.affc_grammar.specs.Names.{Scope, each, thing_of, first_reason, why_declared, why_repeated, why_ranged, with_number, with_array, array_named, ix_tree, compare_tree, value_tree, locals_tree, head_tree, stmts_tree, stmt_tree, decl_tree, range_of, param_tree, params_tree, temps_tree, with_param, with_params, outermost, pragmas_tree, function_why, program_tree}
+use Rattle.affc_grammar.specs.Draft.{LocalDraft, DeclDraft, ParamDraft, PragmaDraft, word_draft, ix_draft, dims_draft, cond_draft, value_draft, locals_draft, head_draft, head_length, bound_rel, stmts_draft, stmt_draft, simple_draft, body_draft, param_draft, temp_draft, array_role, pragmas_draft, text_draft}
+use Rattle.affc_grammar.specs.Names.{Scope, each, thing_of, first_reason, why_declared, why_repeated, why_ranged, with_number, with_array, array_named, ix_tree, compare_tree, cond_tree, value_tree, locals_tree, head_tree, stmts_tree, stmt_tree, decl_tree, range_of, param_tree, params_tree, temps_tree, with_param, with_params, outermost, pragmas_tree, function_why, program_tree}
 use Rattle.affc_grammar.specs.Printed.{Names, no_names, and_number, and_array_name}
 use Rattle.affc_cprint.specs.Programs.{with_param_names, with_array_names}
 use Rattle.affc_cprint.specs.Statements.{with_locals}
 use Rattle.affc_cprint.specs.Forms.{is_none}
 use Rattle.affc_wellnamed.specs.Known as spec
-use Rattle.affc_wellnamed.specs.Known.{Known, and_iterator, and_locals, is_new, is_divisor, ix_known, ixs_known, compares_known, takes, value_known, is_bound, local_known, locals_known, for_known, if_known, assign_known, block_known, stmt_known, stmts_known, known_behind, is_temp, extents_known, array_param_known, is_int, param_known, params_known, temp_known, temps_known, is_function, context_known, body_known, program_known}
-use Rattle.affc_cprint.proofs.Nodes.{neg_here, add_here, sub_here, mul_here, min_here, max_here, mod_here, floord_here, ceild_here}
-use Rattle.affc_cprint.proofs.Arms.{for_here, if_here, block_here}
+use Rattle.affc_wellnamed.specs.Known.{Known, and_iterator, and_locals, is_new, is_divisor, ix_known, ixs_known, compare_known, compares_known, cond_known, takes, value_known, is_bound, local_known, locals_known, for_known, assign_known, block_known, stmt_known, stmts_known, known_behind, is_temp, extents_known, array_param_known, is_int, param_known, params_known, temp_known, temps_known, is_function, context_known, body_known, program_known}
+use Rattle.affc_ast.proofs.Steps.{neg_here, add_here, sub_here, mul_here, min_here, max_here, mod_here, floord_here, ceild_here, for_here, if_here, block_here}
 use Rattle.affc_cprint.proofs.Spelled.{AllHave, have_parts}
 use Rattle.affc_cprint.proofs.Sees.{ok_of, both_ok, allowed_ok}
 use Rattle.affc_cprint.proofs.ReadBack.{word_of_symbol}
@@ -39,7 +39,7 @@ use Rattle.affc_wellnamed.proofs.Knows.{Knows, new_from, knows_number}
 use Rattle.affc_wellnamed.proofs.Induction.{IxCases, every_ix}
 use Rattle.affc_wellnamed.proofs.KnownBack.{any_end, knows_none}
 use Rattle.affc_wellnamed.proofs.KnownPrograms.{knows_outside, knows_param_number, knows_param_array, knows_temp}
-use Rattle.affc_wellnamed.proofs.KnownFrom.{ix_from, dims_from, compares_both, conds_from, value_from, array_seen}
+use Rattle.affc_wellnamed.proofs.KnownFrom.{ix_from, dims_from, compares_both, tests_from, cond_from, value_from, array_seen}
 
 -- ---- Locals
 
@@ -132,7 +132,7 @@ mutual
       ∙ and_from (block_known known a.0.0) (stmts_known (and_locals known a.0.0) b.0) (and_from (known.prelude || is_none a.0.0) (locals_known known [] a.0.0) l.allowed_here l.are_known)
       (stmts_from ss g.0 (and_locals known a.0.0) (scope_after scope a.0.0) (with_locals names a.0.0) l.behind p (l.same_prelude ∙ p) (at + 1 + length (locals_symbols ls)) b.0 body))
 
-  simple_from : {prelude : Bool} (c : SimpleText prelude) → AllHave (simple_symbols c) → (known : Known) (scope : Scope) (names : Names) → Knows known scope names → known.prelude ≡ prelude → scope.has_prelude ≡ prelude → (at : ℕ) (x : Stmt)
+  simple_from : {prelude dangles : Bool} (c : SimpleText prelude dangles) → AllHave (simple_symbols c) → (known : Known) (scope : Scope) (names : Names) → Knows known scope names → known.prelude ≡ prelude → scope.has_prelude ≡ prelude → (at : ℕ) (x : Stmt)
       → stmt_tree scope (simple_draft at c) ≡ Ok x → stmt_known x known ≡ true
   simple_from {prelude = prelude} (for_loop iterator low tested strict high step body) have known scope names k p q at x e =
       let n = word_of_symbol iterator (mark (codes "=") ∷ (ix_symbols low ++ mark (codes ";") ∷ word tested ∷ mark (bound_mark strict) ∷ (ix_symbols high ++ mark (codes ";") ∷ (step_symbols step ++ mark (codes ")") ∷ body_symbols body)))) have in
@@ -158,15 +158,28 @@ mutual
       (and_from (is_bound (bound_rel strict)) (ix_known known l.0 && ix_known known u.0) (bound_known strict)
       (and_from (ix_known known l.0) (ix_known known u.0) (ix_from prelude known scope names k on low hl.0 _ l.0 l.1) (ix_from prelude known scope names k on high hh.0 _ u.0 u.1))))
       (body_from body hs.1 (and_iterator known iterator) (with_number true scope iterator) (and_number names iterator) next p q (at + head_length low high step) b.0 b.1))
-  simple_from {prelude = prelude} (if_all cs body) have known scope names k p q at x e =
-      let h = have_parts (conds_symbols cs) (mark (codes ")") ∷ body_symbols body) have in
-      let a = both_ok (each (compare_tree scope) (conds_draft (at + 2) cs)) _ x e in
-      let b = both_ok (stmts_tree scope (body_draft (at + 2 + length (conds_symbols cs) + 1) body)) _ x a.2 in
-      let c = conds_from prelude known scope names k (λ z. p ∙ z) cs h.0 (at + 2) a.0 a.1 in
+  simple_from {prelude = prelude} (if_then c body) have known scope names k p q at x e =
+      let h = have_parts (cond_symbols c) (mark (codes ")") ∷ body_symbols body) have in
+      let body_at = at + 2 + length (cond_symbols c) + 1 in
+      let a = both_ok (cond_tree scope (cond_draft (at + 2) c)) _ x e in
+      let b = both_ok (stmts_tree scope (body_draft body_at body)) _ x a.2 in
+      let d = cond_from prelude known scope names k (λ z. p ∙ z) c h.0 (at + 2) a.0 a.1 in
       subst (λ s. stmt_known s known ≡ true) (ok_of b.2)
-      (ap (λ (f : Known → Bool). f known) (if_here spec.stmt_step a.0 b.0)
-      ∙ and_from (if_known known a.0) (stmts_known known b.0) (and_from (not (is_none a.0)) (compares_known known a.0) c.1 c.0)
-      (body_from body h.1 known scope names k p q (at + 2 + length (conds_symbols cs) + 1) b.0 b.1))
+      (ap (λ (f : Known → Bool). f known) (if_here spec.stmt_step a.0 b.0 [])
+      ∙ and_from (cond_known known a.0) (stmts_known known b.0 && true) d (and_from (stmts_known known b.0) true (body_from body h.1 known scope names k p q body_at b.0 b.1) refl))
+  simple_from {prelude = prelude} (if_else c body other) have known scope names k p q at x e =
+      let h = have_parts (cond_symbols c) (mark (codes ")") ∷ (body_symbols body ++ word (codes "else") ∷ body_symbols other)) have in
+      let g = have_parts (body_symbols body) (word (codes "else") ∷ body_symbols other) h.1 in
+      let body_at = at + 2 + length (cond_symbols c) + 1 in
+      let other_at = body_at + length (body_symbols body) + 1 in
+      let a = both_ok (cond_tree scope (cond_draft (at + 2) c)) _ x e in
+      let b = both_ok (stmts_tree scope (body_draft body_at body)) _ x a.2 in
+      let r = both_ok (stmts_tree scope (body_draft other_at other)) _ x b.2 in
+      let d = cond_from prelude known scope names k (λ z. p ∙ z) c h.0 (at + 2) a.0 a.1 in
+      subst (λ s. stmt_known s known ≡ true) (ok_of r.2)
+      (ap (λ (f : Known → Bool). f known) (if_here spec.stmt_step a.0 b.0 r.0)
+      ∙ and_from (cond_known known a.0) (stmts_known known b.0 && stmts_known known r.0) d
+      (and_from (stmts_known known b.0) (stmts_known known r.0) (body_from body g.0 known scope names k p q body_at b.0 b.1) (body_from other g.1 known scope names k p q other_at r.0 r.1)))
   simple_from {prelude = prelude} (assign w subs op v) have known scope names k p q at x e =
       let n = word_of_symbol w (dims_symbols subs ++ mark (assign_mark op) ∷ (value_symbols v ++ mark (codes ";") ∷ [])) have in
       let h = have_parts (dims_symbols subs) (mark (assign_mark op) ∷ (value_symbols v ++ mark (codes ";") ∷ [])) n.1 in
@@ -181,7 +194,7 @@ mutual
       (ap (λ m. takes true m (slice_get known.arrays a.0.0)) (sym count) ∙ array_seen known scope names k at w true (length (dims_draft (at + 1) subs)) a.0 a.1)
       (and_from (ixs_known known b.0) (value_known known c.0) (dims_from prelude known scope names k on subs h.0 (at + 1) b.0 b.1) (value_from prelude known scope names k on v g.0 (at + 1 + length (dims_symbols subs) + 1) c.0 c.1)))
 
-  body_from : {prelude : Bool} (c : BodyText prelude) → AllHave (body_symbols c) → (known : Known) (scope : Scope) (names : Names) → Knows known scope names → known.prelude ≡ prelude → scope.has_prelude ≡ prelude → (at : ℕ) (xs : List Stmt)
+  body_from : {prelude dangles : Bool} (c : BodyText prelude dangles) → AllHave (body_symbols c) → (known : Known) (scope : Scope) (names : Names) → Knows known scope names → known.prelude ≡ prelude → scope.has_prelude ≡ prelude → (at : ℕ) (xs : List Stmt)
       → stmts_tree scope (body_draft at c) ≡ Ok xs → stmts_known known xs ≡ true
   body_from (braces ss) have known scope names k p q at xs e = stmts_from ss (have_parts (stmts_symbols ss) (mark (codes "}") ∷ []) have).0 known scope names k p q (at + 1) xs e
   body_from (bare s) have known scope names k p q at xs e =
@@ -365,9 +378,10 @@ module _ (known : Known) where
   compares_free [] c h = refl
   compares_free (x ∷ cs) c h =
       let p = neither (calls_beside x) (any_calls cs) c in
-      let q = and_parts (ix_known with_calls x.left && ix_known with_calls x.right) (compares_known with_calls cs) h in
-      and_from (ix_known known x.left && ix_known known x.right) (compares_known known cs)
-      (both_free x.left x.right (every_ix Free free_cases x.left) (every_ix Free free_cases x.right) p.0 q.0) (compares_free cs p.1 q.1)
+      let q = and_parts (compare_known with_calls x) (compares_known with_calls cs) h in
+      let r = and_parts (is_ordered x.rel) (ix_known with_calls x.left && ix_known with_calls x.right) q.0 in
+      and_from (compare_known known x) (compares_known known cs)
+      (and_from (is_ordered x.rel) (ix_known known x.left && ix_known known x.right) r.0 (both_free x.left x.right (every_ix Free free_cases x.left) (every_ix Free free_cases x.right) p.0 r.1)) (compares_free cs p.1 q.1)
 
 contexts_from : (known : Known) (inside : Scope) (names : Names) → Knows known inside names → (ps : List PragmaDraft) (earlier : List Name) (xs : List Compare) → Each FromLine ps → pragmas_tree inside earlier ps ≡ Ok xs → compares_known (record known { prelude = true }) xs ≡ true
 contexts_from known inside names k [] earlier xs f e = subst (λ l. compares_known (record known { prelude = true }) l ≡ true) (ok_of e) refl
@@ -379,7 +393,7 @@ contexts_from known inside names k (draft.context at cs ∷ ps) earlier xs f e =
     let loud : Known = record known { prelude = true } in
     let k' : Knows loud inside names = record { sees = k.sees; taken = k.taken; numbers = k.numbers; arrays = k.arrays; number_at = k.number_at; array_at = k.array_at; array_of = k.array_of } in
     subst (λ l. compares_known loud l ≡ true) (ok_of q.2)
-    (compares_both true loud inside names k' (λ z. refl) p.0 q.0 (conds_from true loud inside names k' (λ z. refl) f.0.0 f.0.3 f.0.1 p.0 (ap (each (compare_tree inside)) f.0.2 ∙ p.1)).0 (contexts_from known inside names k ps earlier q.0 f.1 q.1))
+    (compares_both true loud inside names k' (λ z. refl) p.0 q.0 (tests_from true loud inside names k' (λ z. refl) f.0.0 f.0.3 f.0.1 p.0 (ap (each (compare_tree inside)) f.0.2 ∙ p.1)) (contexts_from known inside names k ps earlier q.0 f.1 q.1))
 
 -- ---- The program
 

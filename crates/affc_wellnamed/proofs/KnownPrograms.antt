@@ -10,6 +10,7 @@ use Rattle.affc_lex.specs.Pieces.{is_word}
 use Rattle.affc_ast.specs.Names.{is_reserved}
 use Rattle.affc_ast.specs.declared.tree.Role.{Role}
 use Rattle.affc_ast.specs.declared.tree.Role.TheVariants.{Input, Output, Temp}
+use Rattle.affc_ast.specs.Joined.{is_ordered}
 use Rattle.affc_ast.specs.declared.tree.Compare.{Compare}
 use Rattle.affc_ast.specs.declared.tree.Decl.{Decl}
 use Rattle.affc_ast.specs.declared.tree.Ix.{Ix}
@@ -25,8 +26,8 @@ use Rattle.affc_cprint.specs.Layout.{pragmas_of}
 use Rattle.affc_cprint.specs.Programs.{with_param_names, with_array_names}
 use Rattle.affc_cprint.specs.Forms.{is_none}
 use Rattle.affc_wellnamed.specs.Known as spec
-use Rattle.affc_wellnamed.specs.Known.{Known, is_new, ix_known, compares_known, is_divisor, known_behind, param_name, param_arrays, is_number, number_count, is_temp, extents_known, ixs_known, array_param_known, is_int, param_known, params_known, temp_known, temps_known, is_function, context_known, body_known, program_known}
-use Rattle.affc_cprint.proofs.Nodes.{neg_here, add_here, sub_here, mul_here, min_here, max_here, mod_here, floord_here, ceild_here}
+use Rattle.affc_wellnamed.specs.Known.{Known, is_new, ix_known, compare_known, compares_known, is_divisor, known_behind, param_name, param_arrays, is_number, number_count, is_temp, extents_known, ixs_known, array_param_known, is_int, param_known, params_known, temp_known, temps_known, is_function, context_known, body_known, program_known}
+use Rattle.affc_ast.proofs.Steps.{neg_here, add_here, sub_here, mul_here, min_here, max_here, mod_here, floord_here, ceild_here}
 use Rattle.affc_cprint.proofs.Spelled.{off}
 use Rattle.affc_cprint.proofs.Sees.{new_or_old, declared_none, not_static}
 use Rattle.affc_cprint.proofs.ReadBackParams.{FitsInt, ParamsBack, scope_params}
@@ -230,8 +231,9 @@ module _ (known : Known) (none : known.prelude ≡ false) where
   compares_quiet : (cs : List Compare) → compares_known known cs ≡ true → any_calls cs ≡ false
   compares_quiet [] h = refl
   compares_quiet (c ∷ cs) h =
-      let p = and_parts (ix_known known c.left && ix_known known c.right) (compares_known known cs) h in
-      either_off (calls_beside c) (any_calls cs) (both_quiet c.left c.right (every_ix Quiet quiet_cases c.left) (every_ix Quiet quiet_cases c.right) p.0) (compares_quiet cs p.1)
+      let p = and_parts (compare_known known c) (compares_known known cs) h in
+      let q = and_parts (is_ordered c.rel) (ix_known known c.left && ix_known known c.right) p.0 in
+      either_off (calls_beside c) (any_calls cs) (both_quiet c.left c.right (every_ix Quiet quiet_cases c.left) (every_ix Quiet quiet_cases c.right) q.1) (compares_quiet cs p.1)
 
 -- ---- The program
 

@@ -7,8 +7,10 @@ pub mod ShapeParts
 pub mod ShapeStatements
 pub mod ShapePrograms
 pub mod Works
+pub mod Remainders
 pub mod Decides
 pub mod Induction
+pub mod Joints
 pub mod KnownBack
 pub mod KnownPrograms
 pub mod KnownFrom

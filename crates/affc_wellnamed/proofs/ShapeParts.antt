@@ -1,36 +1,43 @@
 -- Printed expressions and values have the tokens and brackets that are counted by the tree.
-use Rattle.std.proofs.Common.{◌≡◌, ℕ, suc, ◌+◌, Bool, true, false, nat_lt, max, List, [], ◌∷◌, ◌++◌, codes, Option, Some, None, IsTrue, ℤ, nat_abs, refl, sym, ap, subst, ◌∙◌, arith, append_assoc, decimal as digits_of, if◌then◌else◌}
-use Rattle.std.proofs.lemmas.Bool.{ltb-true, false≢true}
+use Rattle.std.proofs.Common.{◌≡◌, ℕ, suc, ◌+◌, ◌&&◌, Bool, true, false, nat_lt, max, List, [], ◌∷◌, ◌++◌, length, map, codes, Option, Some, None, is_some, IsTrue, ℤ, nat_abs, refl, sym, ap, subst, ◌∙◌, arith, append_assoc, decimal as digits_of, if◌then◌else◌}
+use Rattle.std.proofs.lemmas.Bool.{ltb-true, false≢true, and_parts}
 use Rattle.affc_ast.specs.declared.tree.NameId.{NameId}
 use Rattle.affc_ast.specs.declared.tree.ArrayId.{ArrayId}
 use Rattle.affc_ast.specs.declared.tree.Op.{Op}
 use Rattle.affc_ast.specs.declared.tree.Op.TheVariants.{Add, Sub, Mul, And, Or, Xor}
 use Rattle.affc_ast.specs.declared.tree.Compare.{Compare}
 use Rattle.affc_ast.specs.declared.tree.Rel.{Rel}
-use Rattle.affc_ast.specs.declared.tree.Rel.TheVariants.{Less, LessEqual, Greater, GreaterEqual, Equal}
+use Rattle.affc_ast.specs.declared.tree.Rel.TheVariants.{Less, LessEqual, Greater, GreaterEqual, Equal, NotEqual}
 use Rattle.affc_ast.specs.declared.tree.Ix.{Ix}
 use Rattle.affc_ast.specs.declared.tree.Ix.TheVariants as ix
 use Rattle.affc_ast.specs.declared.tree.Ix.TheOpen.{Ix-F}
 use Rattle.affc_ast.specs.declared.tree.Val.{Val}
 use Rattle.affc_ast.specs.declared.tree.Val.TheOpen.{Val-F}
 use Rattle.affc_ast.specs.declared.tree.Val.TheVariants as val
-use Rattle.affc_ast.specs.Recursion.{by_ix, by_val}
-use Rattle.affc_grammar.specs.Grammar.{Name, Digits, Symbol, word, number, mark, rel_mark, op_mark, shift_mark, Choice, minimum, maximum, remainder, choice_name, Rounding, down, up, rounding_name, is_divisor, is_shift, IxText, term, plus, minus, TermText, factor, times, negated, AtomText, literal, name, chosen, divided, DimsText, no_dims, and_dim, CondsText, cond, and_cond, ValueText, complement, load, constant, cast, ix_symbols, term_symbols, factor_symbols, atom_symbols, dims_symbols, dim_symbols, conds_symbols, cond_symbols, value_symbols}
+use Rattle.affc_ast.specs.declared.tree.Cond.{Cond}
+use Rattle.affc_ast.specs.declared.tree.Cond.TheOpen.{Cond-F}
+use Rattle.affc_ast.specs.declared.tree.Cond.TheVariants as cond
+use Rattle.affc_ast.specs.Joined.{is_ordered}
+use Rattle.affc_ast.specs.Recursion.{by_ix, by_val, by_cond}
+use Rattle.affc_grammar.specs.Grammar.{Name, Digits, Symbol, word, number, mark, rel_mark, op_mark, shift_mark, Choice, minimum, maximum, remainder, choice_name, Rounding, down, up, rounding_name, is_divisor, is_shift, IxText, term, plus, minus, TermText, factor, times, negated, AtomText, literal, name, chosen, divided, DimsText, no_dims, and_dim, CondText, all_of, or_all, AllText, prim, and_prim, PrimText, enclosed, compared, divisible, zero_mark, ValueText, complement, load, constant, cast, ix_symbols, term_symbols, factor_symbols, atom_symbols, dims_symbols, dim_symbols, cond_symbols, all_symbols, prim_symbols, value_symbols}
 use Rattle.affc_grammar.specs.Limits.{is_item}
 use Rattle.affc_grammar.specs.Printed as printed
-use Rattle.affc_grammar.specs.Printed.{Names, number_name, array_name, IxWritten, sum_written, product_written, atom_written, call_written, nothing_written, chosen_written, divided_by, divided_written, holding, ix_text, and_dims, dims_text, cond_text, and_conds, conds_text, ValueWritten, primary_written, times_written, plus_written, shift_written, and_written, xor_written, or_written, binary_written, shift_by, value_text}
+use Rattle.affc_grammar.specs.Printed.{Names, number_name, array_name, IxWritten, sum_written, product_written, atom_written, call_written, nothing_written, chosen_written, divided_by, divided_written, holding, ix_text, ix_written, and_dims, dims_text, CondWritten, prim_written, all_written, any_written, and_prims, or_alls, no_condition, divisible_by, cond_text, test_by, test_text, and_tests, tests_text, ValueWritten, primary_written, times_written, plus_written, shift_written, and_written, xor_written, or_written, binary_written, shift_by, value_text}
 use Rattle.affc_cprint.specs.Places.{divides}
 use Rattle.affc_cprint.specs.declared.brackets.Place.TheVariants.{Whole, RightOfSum, LeftOfProduct, RightOfProduct, UnderMinus}
 use Rattle.affc_cprint.specs.declared.brackets.Level.TheVariants as level
 use Rattle.affc_wellnamed.specs.declared.shape.Extent.{Extent}
 use Rattle.affc_wellnamed.specs.declared.shape.Binding.TheVariants.{Sum, Product, Atom, Call}
 use Rattle.affc_wellnamed.specs.declared.shape.IxExtent.{IxExtent}
+use Rattle.affc_wellnamed.specs.declared.shape.CondExtent.{CondExtent}
 use Rattle.affc_wellnamed.specs.declared.shape.ValExtent.{ValExtent}
+use Rattle.affc_wellnamed.specs.Known.{Known, ix_known, compare_known, compares_known}
 use Rattle.affc_wellnamed.specs.Shape as spec
-use Rattle.affc_wellnamed.specs.Shape.{saturated, larger, beside, and_tokens, bracketed, placed, joined, called, ix_extent, whole, dims_behind, compare_extent, compares_behind, conds_extent, at_level, val_extent}
-use Rattle.affc_cprint.proofs.Nodes.{neg_here, add_here, sub_here, mul_here, min_here, max_here, mod_here, floord_here, ceild_here}
-use Rattle.affc_cprint.proofs.ReadBackValues.{not_here, bin_here, shift_here}
-use Rattle.affc_wellnamed.proofs.Induction.{IxCases, every_ix, ValCases, every_val}
+use Rattle.affc_wellnamed.specs.Shape.{saturated, larger, nothing, beside, and_tokens, bracketed, placed, joined, called, ix_extent, whole, dims_behind, sides_extent, compare_extent, compares_behind, beside_mark, alone, joint_of, entries_behind, remainder_extent, cond_extent, at_level, val_extent}
+use Rattle.affc_ast.proofs.Steps.{neg_here, add_here, sub_here, mul_here, min_here, max_here, mod_here, floord_here, ceild_here, not_here, bin_here, shift_here, all_here, any_here}
+use Rattle.affc_cprint.proofs.Places.{some_held}
+use Rattle.affc_cprint.proofs.ReadBackValues.{Each}
+use Rattle.affc_wellnamed.proofs.Induction.{IxCases, every_ix, ValCases, every_val, CondCases, every_cond}
 use Rattle.affc_wellnamed.proofs.Counts.{not_below, IsPlain, Row, row_both, plain_row, row_more, AreBrackets, row_in_brackets}
 
 -- ---- Rows and what is counted of them
@@ -233,7 +240,7 @@ module _ (prelude : Bool) (names : Names) (quiet : AreQuiet names) where
   pub ix_spans : (e : Ix) → Spans (ix_symbols (ix_text prelude names e)) (whole prelude e)
   ix_spans e = (every_ix Measures ix_measures e).whole
 
-  -- ---- Subscripts and conditions
+  -- ---- Subscripts, extents and comparisons
 
   pub dims_span : (ds : DimsText prelude) (ss : List Symbol) (a : Extent) (es : List Ix) → Spans (ss ++ dims_symbols ds) a → Spans (ss ++ dims_symbols (and_dims prelude names ds es)) (dims_behind prelude a es)
   dims_span ds ss a [] h = h
@@ -249,28 +256,170 @@ module _ (prelude : Bool) (names : Names) (quiet : AreQuiet names) where
   plain_rel Greater = record { separator = refl; opening = refl; closing = refl; item = refl }
   plain_rel GreaterEqual = record { separator = refl; opening = refl; closing = refl; item = refl }
   plain_rel Equal = record { separator = refl; opening = refl; closing = refl; item = refl }
+  plain_rel NotEqual = record { separator = refl; opening = refl; closing = refl; item = refl }
 
-  compare_spans : (c : Compare) → Spans (cond_symbols (cond_text prelude names c)) (compare_extent prelude c)
-  compare_spans c = between (rel_mark c.rel) (plain_rel c.rel) (ix_symbols (ix_text prelude names c.left)) (ix_symbols (ix_text prelude names c.right)) (whole prelude c.left) (whole prelude c.right) (ix_spans c.left) (ix_spans c.right)
+  sides_span : (rel : Rel) (left right : Ix) → Spans (ix_symbols (ix_text prelude names left) ++ mark (rel_mark rel) ∷ ix_symbols (ix_text prelude names right)) (sides_extent prelude left right)
+  sides_span rel left right = between (rel_mark rel) (plain_rel rel) (ix_symbols (ix_text prelude names left)) (ix_symbols (ix_text prelude names right)) (whole prelude left) (whole prelude right) (ix_spans left) (ix_spans right)
 
-  conds_span : (ds : CondsText prelude) (a : Extent) (cs : List Compare) → Spans (conds_symbols ds) a → Spans (conds_symbols (and_conds prelude names ds cs)) (compares_behind prelude a cs)
-  conds_span ds a [] h = h
-  conds_span ds a (c ∷ cs) h =
-      conds_span (and_cond ds (cond_text prelude names c)) (and_tokens 1 (beside a (compare_extent prelude c))) cs
-      (between (codes "&&") (record { separator = refl; opening = refl; closing = refl; item = refl }) (conds_symbols ds) (cond_symbols (cond_text prelude names c)) a (compare_extent prelude c) h (compare_spans c))
+-- ---- Conditions
 
-  pub conds_spans : (cs : List Compare) → Spans (conds_symbols (conds_text prelude names cs)) (conds_extent prelude cs)
-  conds_spans [] =
-      let zero_text = number (codes "0") in
-      let p = plain_number (codes "0") in
-      record {
-        count = 3;
-        deep = 0;
-        row = row_more 2 0 zero_text (mark (codes "<") ∷ zero_text ∷ []) p (row_more 1 0 (mark (codes "<")) (zero_text ∷ []) (record { separator = refl; opening = refl; closing = refl; item = refl }) (plain_row zero_text p));
-        tokens = refl;
-        depth = refl;
-      }
-  conds_spans (c ∷ cs) = conds_span (cond (cond_text prelude names c)) (compare_extent prelude c) cs (compare_spans c)
+-- what is written at each place spans what is counted there
+pub record CondSpans {prelude : Bool} (w : CondWritten prelude) (s : CondExtent) : Type 0 where
+  pub whole : Spans (cond_symbols w.whole) s.extent
+  pub in_any : Spans (all_symbols w.in_any) (beside_mark false s)
+  pub in_all : Spans (prim_symbols w.in_all) (beside_mark true s)
+
+plain_zero : (so : Bool) → IsPlain (mark (zero_mark so))
+plain_zero true = record { separator = refl; opening = refl; closing = refl; item = refl }
+plain_zero false = record { separator = refl; opening = refl; closing = refl; item = refl }
+
+no_condition_spans : Spans (number (codes "0") ∷ mark (codes "<") ∷ number (codes "0") ∷ []) (record { tokens = 3; depth = 0 })
+no_condition_spans =
+    let zero_text = number (codes "0") in
+    let p = plain_number (codes "0") in
+    record {
+      count = 3;
+      deep = 0;
+      row = row_more 2 0 zero_text (mark (codes "<") ∷ zero_text ∷ []) p (row_more 1 0 (mark (codes "<")) (zero_text ∷ []) (record { separator = refl; opening = refl; closing = refl; item = refl }) (plain_row zero_text p));
+      tokens = refl;
+      depth = refl;
+    }
+
+prim_spans : {prelude : Bool} (q : PrimText prelude true) (e : Extent) → Spans (prim_symbols q) e → CondSpans (prim_written q) (alone e)
+prim_spans q e h = record { whole = h; in_any = h; in_all = h }
+
+all_spans : {prelude : Bool} (a : AllText prelude true) (e : Extent) → Spans (all_symbols a) e → CondSpans (all_written a) (record { extent = e; joint = joint_of true })
+all_spans a e h = record { whole = h; in_any = h; in_all = in_round (all_symbols a) e h }
+
+any_spans : {prelude : Bool} (c : CondText prelude true) (e : Extent) → Spans (cond_symbols c) e → CondSpans (any_written c) (record { extent = e; joint = joint_of false })
+any_spans c e h = let i = in_round (cond_symbols c) e h in record { whole = h; in_any = i; in_all = i }
+
+nothing_holds : (prelude : Bool) → CondSpans {prelude = prelude} no_condition spec.no_condition
+nothing_holds prelude = prim_spans (compared nothing_written.whole Less refl nothing_written.whole) (record { tokens = 3; depth = 0 }) no_condition_spans
+
+remainder_spans : {prelude : Bool} (t : TermText prelude) (e : Extent) (by : ℤ) (so : Bool) → Spans (term_symbols t) e
+    → CondSpans (divisible_by t (digits_of (nat_abs by)) (holding (is_divisor (digits_of (nat_abs by)))) so) (remainder_extent (divides true by) e)
+remainder_spans {prelude = prelude} t e by so h = of (digits_of (nat_abs by)) (is_divisor (digits_of (nat_abs by))) refl (holding (is_divisor (digits_of (nat_abs by)))) refl
+  where
+    of : (ds : Digits) (b : Bool) → is_divisor ds ≡ b → (o : Option (IsTrue (is_divisor ds))) → o ≡ holding (is_divisor ds) → CondSpans (divisible_by t ds o so) (remainder_extent b e)
+    of ds true q (Some d) r =
+        let n = h.tokens in
+        let zero_text = number (codes "0") in
+        let same : max h.deep 0 ≡ h.deep = omega arith in
+        let tail = row_more 3 0 (mark (codes "%")) (number ds ∷ mark (zero_mark so) ∷ zero_text ∷ []) (record { separator = refl; opening = refl; closing = refl; item = refl })
+        (row_more 2 0 (number ds) (mark (zero_mark so) ∷ zero_text ∷ []) (plain_number ds) (row_more 1 0 (mark (zero_mark so)) (zero_text ∷ []) (plain_zero so) (plain_row zero_text (plain_number (codes "0"))))) in
+        let all = row_both h.count 4 h.deep 0 (term_symbols t) (mark (codes "%") ∷ number ds ∷ mark (zero_mark so) ∷ zero_text ∷ []) h.row tail in
+        prim_spans (divisible refl t ds d so) (and_tokens 4 e) (record {
+          count = h.count + 4;
+          deep = h.deep;
+          row = subst (λ m. Row (h.count + 4) m (term_symbols t ++ mark (codes "%") ∷ number ds ∷ mark (zero_mark so) ∷ zero_text ∷ [])) same all;
+          tokens = omega (arith, n);
+          depth = h.depth;
+        })
+    of ds false q (Some d) r = absurd (false≢true (sym q ∙ d))
+    of ds true q None r = absurd (some_off (is_divisor ds) q r)
+      where
+        some_off : (b : Bool) → b ≡ true → None ≡ holding b → ⊥
+        some_off true h r = cc
+        some_off false h r = false≢true h
+    of ds false q None r = nothing_holds prelude
+
+-- the first of conditions that are joined, and one more behind some, with so many marks
+first_entry : (ss : List Symbol) (b : Extent) → Spans ss b → Spans ss (and_tokens 0 (beside nothing b))
+first_entry ss b h =
+    let t = h.tokens in let d = h.depth in let l = larger_is 0 b.depth in
+    record { count = h.count; deep = h.deep; row = h.row; tokens = omega (arith, t); depth = omega (arith, d, l) }
+
+entry_more : (bytes : List ℕ) → IsPlain (mark bytes) → (xs ys : List Symbol) (e b : Extent) (m : ℕ) → Spans xs (and_tokens m e) → Spans ys b → Spans (xs ++ mark bytes ∷ ys) (and_tokens (m + 1) (beside e b))
+entry_more bytes p xs ys e b m q r =
+    let h = between bytes p xs ys (and_tokens m e) b q r in
+    let t = h.tokens in
+    record { count = h.count; deep = h.deep; row = h.row; tokens = omega (arith, t); depth = h.depth }
+
+module _ (prelude : Bool) (names : Names) (quiet : AreQuiet names) where
+  abbrev step_c : Cond-F (CondWritten prelude) → CondWritten prelude
+  step_c = printed.cond_step prelude names
+
+  abbrev Counts : Cond → Type 0
+  Counts c = CondSpans (by_cond step_c c) (cond_extent prelude c)
+
+  at_cond : (c : Cond) (w : CondWritten prelude) (s : CondExtent) → by_cond step_c c ≡ w → cond_extent prelude c ≡ s → CondSpans w s → Counts c
+  at_cond c w s p q h = subst (λ z. CondSpans z (cond_extent prelude c)) (sym p) (subst (CondSpans w) (sym q) h)
+
+  prims_span : (a : AllText prelude true) (e : Extent) (m : ℕ) → Spans (all_symbols a) (and_tokens m e) → (cs : List Cond) → Each Counts cs
+      → Spans (all_symbols (and_prims a (map (by_cond step_c) cs))) (and_tokens (m + length (map (cond_extent prelude) cs)) (entries_behind true e (map (cond_extent prelude) cs)))
+  prims_span a e m h [] f = let same : m ≡ m + 0 = omega arith in subst (λ n. Spans (all_symbols a) (and_tokens n e)) same h
+  prims_span a e m h (c ∷ cs) f =
+      let q = (by_cond step_c c).in_all in
+      let b = beside_mark true (cond_extent prelude c) in
+      let same : m + 1 + length (map (cond_extent prelude) cs) ≡ m + length (map (cond_extent prelude) (c ∷ cs)) = omega arith in
+      subst (λ n. Spans (all_symbols (and_prims (and_prim a q) (map (by_cond step_c) cs))) (and_tokens n (entries_behind true (beside e b) (map (cond_extent prelude) cs)))) same
+      (prims_span (and_prim a q) (beside e b) (m + 1) (entry_more (codes "&&") (record { separator = refl; opening = refl; closing = refl; item = refl }) (all_symbols a) (prim_symbols q) e b m h f.0.in_all) cs f.1)
+
+  alls_span : (a : CondText prelude true) (e : Extent) (m : ℕ) → Spans (cond_symbols a) (and_tokens m e) → (cs : List Cond) → Each Counts cs
+      → Spans (cond_symbols (or_alls a (map (by_cond step_c) cs))) (and_tokens (m + length (map (cond_extent prelude) cs)) (entries_behind false e (map (cond_extent prelude) cs)))
+  alls_span a e m h [] f = let same : m ≡ m + 0 = omega arith in subst (λ n. Spans (cond_symbols a) (and_tokens n e)) same h
+  alls_span a e m h (c ∷ cs) f =
+      let q = (by_cond step_c c).in_any in
+      let b = beside_mark false (cond_extent prelude c) in
+      let same : m + 1 + length (map (cond_extent prelude) cs) ≡ m + length (map (cond_extent prelude) (c ∷ cs)) = omega arith in
+      subst (λ n. Spans (cond_symbols (or_alls (or_all refl a q) (map (by_cond step_c) cs))) (and_tokens n (entries_behind false (beside e b) (map (cond_extent prelude) cs)))) same
+      (alls_span (or_all refl a q) (beside e b) (m + 1) (entry_more (codes "||") (record { separator = refl; opening = refl; closing = refl; item = refl }) (cond_symbols a) (all_symbols q) e b m h f.0.in_any) cs f.1)
+
+  all_measure : (cs : List Cond) → Each Counts cs → Counts (cond.All cs)
+  all_measure [] f = at_cond (cond.All []) _ _ (all_here step_c []) (all_here (spec.cond_step prelude) []) (nothing_holds prelude)
+  all_measure (c ∷ cs) f = at_cond (cond.All (c ∷ cs)) _ _ (all_here step_c (c ∷ cs)) (all_here (spec.cond_step prelude) (c ∷ cs))
+      (let b = beside_mark true (cond_extent prelude c) in
+      let t = and_prims (prim (by_cond step_c c).in_all) (map (by_cond step_c) cs) in
+      let n = length (map (cond_extent prelude) cs) in
+      let e = entries_behind true (beside nothing b) (map (cond_extent prelude) cs) in
+      let same : 0 + n ≡ n = omega arith in
+      all_spans t (and_tokens n e) (subst (λ k. Spans (all_symbols t) (and_tokens k e)) same (prims_span (prim (by_cond step_c c).in_all) (beside nothing b) 0 (first_entry (prim_symbols (by_cond step_c c).in_all) b f.0.in_all) cs f.1)))
+
+  any_measure : (cs : List Cond) → Each Counts cs → Counts (cond.Any cs)
+  any_measure [] f = at_cond (cond.Any []) _ _ (any_here step_c []) (any_here (spec.cond_step prelude) []) (nothing_holds prelude)
+  any_measure (c ∷ cs) f = at_cond (cond.Any (c ∷ cs)) _ _ (any_here step_c (c ∷ cs)) (any_here (spec.cond_step prelude) (c ∷ cs))
+      (let b = beside_mark false (cond_extent prelude c) in
+      let t = or_alls (all_of (by_cond step_c c).in_any) (map (by_cond step_c) cs) in
+      let n = length (map (cond_extent prelude) cs) in
+      let e = entries_behind false (beside nothing b) (map (cond_extent prelude) cs) in
+      let same : 0 + n ≡ n = omega arith in
+      any_spans t (and_tokens n e) (subst (λ k. Spans (cond_symbols t) (and_tokens k e)) same (alls_span (all_of (by_cond step_c c).in_any) (beside nothing b) 0 (first_entry (all_symbols (by_cond step_c c).in_any) b f.0.in_any) cs f.1)))
+
+  cond_measures : CondCases Counts
+  cond_measures = record {
+    compare = λ rel left right. prim_spans (compared (ix_text prelude names left) rel refl (ix_text prelude names right)) (sides_extent prelude left right) (sides_span prelude names quiet rel left right);
+    all = all_measure;
+    any = any_measure;
+    divides = λ value by so. remainder_spans (ix_written prelude names value).right_of_sum (placed RightOfSum (ix_extent prelude value)) by so (every_ix (Measures prelude names quiet) (ix_measures prelude names quiet) value).right_of_sum;
+  }
+
+  pub cond_spans : (c : Cond) → Spans (cond_symbols (cond_text prelude names c)) (cond_extent prelude c).extent
+  cond_spans c = (every_cond Counts cond_measures c).whole
+
+-- ---- Conditions before the function
+
+module _ (names : Names) (quiet : AreQuiet names) where
+  test_spans : (c : Compare) → is_ordered c.rel ≡ true → Spans (prim_symbols (test_text names c)) (compare_extent true c)
+  test_spans c h = of (holding (is_ordered c.rel)) (some_held (is_ordered c.rel) h)
+    where
+      of : (o : Option (IsTrue (is_ordered c.rel))) → is_some o ≡ true → Spans (prim_symbols (test_by names c o)) (compare_extent true c)
+      of (Some d) e = sides_span true names quiet c.rel c.left c.right
+      of None e = absurd (cc)
+
+  tests_span : (known : Known) (a : AllText true false) (e : Extent) → Spans (all_symbols a) e → (cs : List Compare) → compares_known known cs ≡ true → Spans (all_symbols (and_tests names a cs)) (compares_behind true e cs)
+  tests_span known a e s [] h = s
+  tests_span known a e s (c ∷ cs) h =
+      let p = and_parts (compare_known known c) (compares_known known cs) h in
+      let q = and_parts (is_ordered c.rel) (ix_known known c.left && ix_known known c.right) p.0 in
+      tests_span known (and_prim a (test_text names c)) (and_tokens 1 (beside e (compare_extent true c)))
+      (between (codes "&&") (record { separator = refl; opening = refl; closing = refl; item = refl }) (all_symbols a) (prim_symbols (test_text names c)) e (compare_extent true c) s (test_spans c q.0)) cs p.1
+
+  pub tests_spans : (known : Known) (c : Compare) (cs : List Compare) → compares_known known (c ∷ cs) ≡ true → Spans (cond_symbols (tests_text names c cs)) (compares_behind true (compare_extent true c) cs)
+  tests_spans known c cs h =
+      let p = and_parts (compare_known known c) (compares_known known cs) h in
+      let q = and_parts (is_ordered c.rel) (ix_known known c.left && ix_known known c.right) p.0 in
+      tests_span known (prim (test_text names c)) (compare_extent true c) (test_spans c q.0) cs p.1
 
 -- ---- Values
 

@@ -13,21 +13,21 @@ use Rattle.affc_ast.specs.declared.tree.Ix.{Ix}
 use Rattle.affc_ast.specs.declared.tree.Param.{Param}
 use Rattle.affc_ast.specs.declared.tree.Param.TheVariants.{Number, Array}
 use Rattle.affc_ast.specs.declared.tree.Program.{Program}
-use Rattle.affc_grammar.specs.Grammar.{Name, Symbol, word, number, mark, ParamsText, param, and_param, DeclsText, no_decls, and_decl, one_array, no_dims, no_stmts, PragmasText, no_pragmas, and_range, line_feed, dims_symbols, dim_symbols, ix_symbols, const_symbols, param_symbols, params_symbols, decls_symbols, stmts_symbols, conds_symbols, int_symbols, line_symbols, pragma_symbols, pragmas_symbols, prelude_symbols, include_symbols, function_symbols, text_symbols, context_calls}
+use Rattle.affc_grammar.specs.Grammar.{Name, Symbol, word, number, mark, ParamsText, param, and_param, DeclsText, no_decls, and_decl, one_array, no_dims, no_stmts, PragmasText, no_pragmas, and_range, line_feed, dims_symbols, dim_symbols, ix_symbols, const_symbols, param_symbols, params_symbols, decls_symbols, stmts_symbols, cond_symbols, int_symbols, line_symbols, pragma_symbols, pragmas_symbols, prelude_symbols, include_symbols, function_symbols, text_symbols, context_calls}
 use Rattle.affc_grammar.specs.Limits.{wide_limits, shape_passed, count_token, count_run, count_open, count_item, is_separator, is_opening, is_closing, is_item}
 use Rattle.affc_grammar.specs.Printed as printed
-use Rattle.affc_grammar.specs.Printed.{Names, no_names, and_number, and_array_name, and_param_name, ix_text, dims_text, conds_text, param_text, array_text, and_params, params_text, decls_text, int_text, ranges_text, context_text, stmts_text, stmt_text, function_text, with_pragmas, printed, holding}
+use Rattle.affc_grammar.specs.Printed.{Names, no_names, and_number, and_array_name, and_param_name, ix_text, dims_text, tests_text, param_text, array_text, and_params, params_text, decls_text, int_text, ranges_text, context_text, stmts_text, stmt_text, function_text, with_pragmas, printed, holding}
 use Rattle.affc_cprint.specs.Layout.{pragmas_of}
 use Rattle.affc_cprint.specs.Programs.{with_param_names, with_array_names}
 use Rattle.affc_cprint.specs.Forms.{is_none}
-use Rattle.affc_wellnamed.specs.Known.{Known, param_name, is_new, known_behind, param_known, params_known, temp_known, temps_known, extents_known, is_int, is_temp, ixs_known, is_function, context_known, body_known, program_known}
+use Rattle.affc_wellnamed.specs.Known.{Known, param_name, is_new, known_behind, param_known, params_known, temp_known, temps_known, extents_known, is_int, is_temp, ixs_known, compares_known, is_function, context_known, body_known, program_known}
 use Rattle.affc_wellnamed.specs.declared.shape.Extent.{Extent}
 use Rattle.affc_wellnamed.specs.declared.shape.Shape.{Shape}
-use Rattle.affc_wellnamed.specs.Shape.{saturated, nothing, beside, bracketed, and_tokens, whole, dims_behind, conds_extent, both, line, stmts_behind, end_tokens, range_line, ranges_behind, context_behind, head_tokens, array_extent, param_extent, params_behind, params_extent, decls_behind, lines_shape, head_line, function_shape, program_shape, is_bounded}
+use Rattle.affc_wellnamed.specs.Shape.{saturated, nothing, beside, bracketed, and_tokens, whole, dims_behind, compare_extent, compares_behind, both, line, stmts_behind, end_tokens, range_line, ranges_behind, context_behind, head_tokens, array_extent, param_extent, params_behind, params_extent, decls_behind, lines_shape, head_line, function_shape, program_shape, is_bounded}
 use Rattle.affc_cprint.proofs.Places.{some_held}
 use Rattle.affc_cprint.proofs.Programs.{param_names_are, decl_names_from}
 use Rattle.affc_wellnamed.proofs.Counts.{Adds, Rises, Runs, adds_both, rises_both, runs_both, none_added, any_tokens, count_is, run_ends, rises_more, rises_within, items_more, run_more, IsPlain, Row, row_both, row_more, no_row, highest, none_past, past_none}
-use Rattle.affc_wellnamed.proofs.ShapeParts.{Spans, AreQuiet, spans_both, spans_brackets, spans_joined, plain_word, plain_number, square, ix_spans, dims_span, conds_spans}
+use Rattle.affc_wellnamed.proofs.ShapeParts.{Spans, AreQuiet, spans_both, spans_brackets, spans_joined, plain_word, plain_number, square, ix_spans, dims_span, tests_spans}
 use Rattle.affc_wellnamed.proofs.ShapeStatements.{Numbers, joined, Fits, Counted, counted_both, fits_both, line_of, fits_line, closed_of, fits_closed, Shapes, no_item, new_no_item, line_counted, part_line, quiet_end, Behind, none_behind, one_behind, spans_fit, body_shapes, all_weigh}
 use Rattle.affc_wellnamed.proofs.KnownPrograms.{Spoken, program_speaks}
 use Rattle.affc_wellnamed.proofs.KnownBack.{some_is}
@@ -180,13 +180,14 @@ ranges_shapes prelude f before c n a b (Array d ∷ qs) h =
     let p = and_parts (param_known (known_behind prelude f before []) (Array d)) (params_known prelude f (before ++ Array d ∷ []) qs) h in
     ranges_shapes prelude f (before ++ Array d ∷ []) c n a b qs p.1
 
-context_shapes : (names : Names) → AreQuiet names → (c : PragmasText) (n : Numbers) (a : Shape) → Behind (pragmas_symbols c) n a → (cs : List Compare) → Behind (pragmas_symbols (context_text names c cs)) n (context_behind a cs)
-context_shapes names quiet c n a b [] = b
-context_shapes names quiet c n a b (x ∷ cs) =
-    let s = conds_spans true names quiet (x ∷ cs) in
-    let ss = conds_symbols (conds_text true names (x ∷ cs)) in
-    let one = part_line (pragma_symbols (codes "context")) 4 ss (conds_extent true (x ∷ cs)) ending s refl (record { opening = refl; closing = refl }) refl (pragma_row (codes "context") refl s.count s.deep ss s.row) in
-    one_behind (pragmas_symbols c) ((pragma_symbols (codes "context") ++ ss) ++ ending ∷ []) n (line_of 4 s.count s.deep) a (line 4 (conds_extent true (x ∷ cs))) b one (spans_fit 4 ss (conds_extent true (x ∷ cs)) s)
+context_shapes : (known : Known) (names : Names) → AreQuiet names → (c : PragmasText) (n : Numbers) (a : Shape) → Behind (pragmas_symbols c) n a → (cs : List Compare) → compares_known known cs ≡ true → Behind (pragmas_symbols (context_text names c cs)) n (context_behind a cs)
+context_shapes known names quiet c n a b [] h = b
+context_shapes known names quiet c n a b (x ∷ cs) h =
+    let s = tests_spans names quiet known x cs h in
+    let ss = cond_symbols (tests_text names x cs) in
+    let e = compares_behind true (compare_extent true x) cs in
+    let one = part_line (pragma_symbols (codes "context")) 4 ss e ending s refl (record { opening = refl; closing = refl }) refl (pragma_row (codes "context") refl s.count s.deep ss s.row) in
+    one_behind (pragmas_symbols c) ((pragma_symbols (codes "context") ++ ss) ++ ending ∷ []) n (line_of 4 s.count s.deep) a (line 4 e) b one (spans_fit 4 ss e s)
 
 -- ---- The function
 
@@ -291,7 +292,7 @@ program_shapes p h =
     let quiet = quiet_params p.prelude p.name [] no_names quiet_nothing p.params c.0 in
     let first : Numbers = line_of 3 0 0 in
     let ranges = ranges_shapes p.prelude p.name [] no_pragmas first (line 3 nothing) (none_behind (line 3 nothing) first (fits_line 3 nothing 0 0 refl refl)) p.params c.0 in
-    let lines = context_shapes names quiet (ranges_text no_pragmas p.params) first (ranges_behind (line 3 nothing) p.params) ranges p.context in
+    let lines = context_shapes (known_behind p.prelude p.name p.params []) names quiet (ranges_text no_pragmas p.params) first (ranges_behind (line 3 nothing) p.params) ranges p.context d.0 in
     let before = counted_both (include_symbols line_feed) (pragmas_symbols (context_text names (ranges_text no_pragmas p.params) p.context)) first lines.numbers include_counted lines.counted in
     let ps = params_spans p.prelude p.name p.params (some_is p.params b.0) c.0 in
     let j = if p.prelude then 1 else 0 in

@@ -8,32 +8,32 @@ use Rattle.affc_ast.specs.declared.tree.Op.{Op}
 use Rattle.affc_ast.specs.declared.tree.Op.TheVariants as op
 use Rattle.affc_ast.specs.declared.tree.Rel.{Rel}
 use Rattle.affc_ast.specs.declared.tree.Ix.{Ix}
-use Rattle.affc_ast.specs.declared.tree.Compare.{Compare}
+use Rattle.affc_ast.specs.declared.tree.Cond.{Cond}
 use Rattle.affc_ast.specs.declared.tree.Local.{Local}
 use Rattle.affc_ast.specs.declared.tree.Val.{Val}
 use Rattle.affc_ast.specs.declared.tree.Stmt.{Stmt}
 use Rattle.affc_ast.specs.declared.tree.Stmt.TheVariants as stmt
-use Rattle.affc_grammar.specs.Grammar.{Name, Symbol, word, mark, bound_mark, assign_mark, LocalsText, no_locals, and_local, StmtsText, no_stmts, and_stmt, StmtText, simple, block, for_loop, if_all, braces, then_up, no_dims, ix_symbols, dims_symbols, conds_symbols, value_symbols, locals_symbols, stmts_symbols, stmt_symbols}
+use Rattle.affc_grammar.specs.Grammar.{Name, Symbol, word, mark, bound_mark, assign_mark, LocalsText, no_locals, and_local, StmtsText, no_stmts, and_stmt, StmtText, simple, block, for_loop, if_then, if_else, braces, then_up, no_dims, ix_symbols, dims_symbols, cond_symbols, value_symbols, locals_symbols, stmts_symbols, stmt_symbols}
 use Rattle.affc_grammar.specs.Limits.{count_run, count_open, count_item, is_separator, is_item}
 use Rattle.affc_grammar.specs.Printed as printed
-use Rattle.affc_grammar.specs.Printed.{Names, array_name, and_number, ix_text, dims_text, conds_text, value_text, is_less, local_text, locals_text, stmts_text, stmt_text}
+use Rattle.affc_grammar.specs.Printed.{Names, array_name, and_number, ix_text, dims_text, cond_text, value_text, is_less, local_text, locals_text, stmts_text, stmt_text}
 use Rattle.affc_cprint.specs.Statements.{with_locals}
 use Rattle.affc_cprint.specs.Forms.{is_none}
 use Rattle.affc_wellnamed.specs.Known as known
-use Rattle.affc_wellnamed.specs.Known.{Known, and_iterator, and_locals, is_refused, is_new, is_bound, ix_known, ixs_known, compares_known, value_known, takes, local_known, locals_known, for_known, if_known, block_known, stmt_known, stmts_known}
+use Rattle.affc_wellnamed.specs.Known.{Known, and_iterator, and_locals, is_refused, is_new, is_bound, ix_known, ixs_known, cond_known, value_known, takes, local_known, locals_known, for_known, block_known, stmt_known, stmts_known}
 use Rattle.affc_wellnamed.specs.declared.shape.Extent.{Extent}
 use Rattle.affc_wellnamed.specs.declared.shape.Shape.{Shape}
 use Rattle.affc_wellnamed.specs.Shape as spec
-use Rattle.affc_wellnamed.specs.Shape.{saturated, larger, nothing, whole, dims_behind, conds_extent, at_level, val_extent, both, line, deeper, worded, closed, all_behind, locals_behind, for_head, if_head, assign_line, block_head, stmt_shape, stmts_behind}
+use Rattle.affc_wellnamed.specs.Shape.{saturated, larger, nothing, whole, dims_behind, cond_extent, at_level, val_extent, both, line, deeper, worded, closed, all_behind, locals_behind, for_head, if_head, else_head, assign_line, block_head, stmt_shape, stmts_behind}
 use Rattle.affc_cprint.specs.declared.brackets.Level.TheVariants as level
-use Rattle.affc_cprint.proofs.Arms.{for_here, if_here, block_here}
+use Rattle.affc_ast.proofs.Steps.{for_here, if_here, block_here}
 use Rattle.affc_cprint.proofs.Chains.{locals_names}
 use Rattle.affc_cprint.proofs.Spelled.{off, not_true, never}
 use Rattle.affc_cprint.proofs.Sees.{same_is}
 use Rattle.affc_cprint.proofs.ReadBackValues.{Each}
 use Rattle.affc_wellnamed.proofs.Induction.{every_stmt}
 use Rattle.affc_wellnamed.proofs.Counts.{Adds, Rises, Runs, adds_both, rises_both, runs_both, none_added, none_risen, no_runs, count_is, run_ends, NoBracket, rises_one, rises_more, rises_within, items_more, items_one, run_more, IsPlain, Row, row_both, row_more}
-use Rattle.affc_wellnamed.proofs.ShapeParts.{Spans, AreQuiet, larger_is, spans_one as one_word, plain_word, ix_spans, dims_span, conds_spans, val_spans}
+use Rattle.affc_wellnamed.proofs.ShapeParts.{Spans, AreQuiet, larger_is, spans_one as one_word, plain_word, ix_spans, dims_span, cond_spans, val_spans}
 
 pub record Numbers : Type 0 where
   pub tokens : ℕ
@@ -243,62 +243,165 @@ module _ (iter : Name) (strict : Bool) (plain : is_item (word iter) ≡ false) (
   pub loop_counted : Counted loop_symbols loop_of
   loop_counted = record { token = loop_token; run = loop_run; brackets = loop_brackets; item = loop_item }
 
+-- ---- Branches
+
+abbrev closing : Symbol
+closing = mark (codes "}")
+
+abbrev opening : Symbol
+opening = mark (codes "{")
+
+-- what stands behind the brace that opens a body
+record Branches (rest : List Symbol) (n : Numbers) : Type 0 where
+  token : length rest ≡ n.tokens
+  run : Runs n.run rest
+  brackets : Rises count_open n.depth (opening ∷ rest)
+  item : Adds count_item n.items rest
+
+module _ (bs : List Symbol) (b : Numbers) (body : Counted bs b) where
+  closing_run : Runs b.run (bs ++ closing ∷ [])
+  closing_run =
+      let all = runs_both b.run 0 bs (closing ∷ []) body.run (run_ends 0 [] closing refl (none_added count_run)) in
+      let size : max b.run 0 ≡ b.run = omega arith in
+      subst (λ n. Runs n (bs ++ closing ∷ [])) size all
+
+  closing_item : Adds count_item b.items (bs ++ closing ∷ [])
+  closing_item =
+      let all = adds_both count_item b.items 0 bs (closing ∷ []) body.item (items_more 0 closing [] refl (none_added count_item)) in
+      let size : b.items + 0 ≡ b.items = omega arith in
+      subst (λ n. Adds count_item n (bs ++ closing ∷ [])) size all
+
+  braces_rise : Rises count_open (b.depth + 1) (opening ∷ (bs ++ closing ∷ []))
+  braces_rise = rises_within b.depth opening closing bs refl refl refl body.brackets
+
+  one_branch : Branches (bs ++ closing ∷ []) (closed_of b)
+  one_branch = record {
+    token = let d = length-append bs (closing ∷ []) in let g = body.token in omega (arith, d, g);
+    run = closing_run;
+    brackets = braces_rise;
+    item = closing_item;
+  }
+
+-- a brace, `else` and a brace
+abbrev else_of : Numbers
+else_of = joined (line_of 0 0 0) (line_of 1 0 0)
+
+abbrev else_word : Symbol
+else_word = word (codes "else")
+
+module _ (bs os : List Symbol) (b o : Numbers) (body : Counted bs b) (other : Counted os o) where
+  abbrev else_symbols : List Symbol
+  else_symbols = else_word ∷ opening ∷ (os ++ closing ∷ [])
+
+  two_branches : Branches ((bs ++ closing ∷ []) ++ else_symbols) (closed_of (joined (joined b else_of) o))
+  two_branches = record {
+    token =
+        let a = length-append (bs ++ closing ∷ []) else_symbols in
+        let c = length-append bs (closing ∷ []) in
+        let d = length-append os (closing ∷ []) in
+        let e = body.token in
+        let g = other.token in
+        omega (arith, a, c, d, e, g);
+    run =
+        let one = closing_run bs b body in
+        let mid = run_ends (1 + 0) (else_word ∷ []) opening refl (run_more 0 else_word [] refl (none_added count_run)) in
+        let last = closing_run os o other in
+        let all = runs_both b.run _ (bs ++ closing ∷ []) else_symbols one (runs_both (1 + 0) o.run (else_word ∷ opening ∷ []) (os ++ closing ∷ []) mid last) in
+        let size : max b.run (max (1 + 0) o.run) ≡ max (max b.run (max 0 1)) o.run = omega arith in
+        subst (λ n. Runs n ((bs ++ closing ∷ []) ++ else_symbols)) size all;
+    brackets =
+        let one = braces_rise bs b body in
+        let two = rises_more (o.depth + 1) else_word (opening ∷ (os ++ closing ∷ [])) (word_bracket (codes "else")) (braces_rise os o other) in
+        let all = rises_both count_open (b.depth + 1) (o.depth + 1) (opening ∷ (bs ++ closing ∷ [])) else_symbols one two in
+        let size : max (b.depth + 1) (o.depth + 1) ≡ max (max b.depth (max 0 0)) o.depth + 1 = omega arith in
+        subst (λ n. Rises count_open n ((opening ∷ (bs ++ closing ∷ [])) ++ else_symbols)) size all;
+    item =
+        let two = items_more o.items else_word (opening ∷ (os ++ closing ∷ [])) refl (items_more o.items opening (os ++ closing ∷ []) refl (closing_item os o other)) in
+        let all = adds_both count_item b.items o.items (bs ++ closing ∷ []) else_symbols (closing_item bs b body) two in
+        let size : b.items + o.items ≡ b.items + (0 + 0) + o.items = omega arith in
+        subst (λ n. Adds count_item n ((bs ++ closing ∷ []) ++ else_symbols)) size all;
+  }
+
 -- ---- Tests
 
-module _ (cs bs : List Symbol) (c cd : ℕ) (conds : Row c cd cs) (b : Numbers) (body : Counted bs b) where
-  abbrev test_of : Numbers
-  test_of = worded_of (closed_of (joined (line_of 3 c cd) b))
+same_numbers : (m n : Numbers) → m.tokens ≡ n.tokens → m.run ≡ n.run → m.depth ≡ n.depth → m.items ≡ n.items → m ≡ n
+same_numbers m n t r d i = λ j. record { tokens = t j; run = r j; depth = d j; items = i j }
 
-  abbrev test_tail : List Symbol
-  test_tail = mark (codes "{") ∷ (bs ++ mark (codes "}") ∷ [])
+module _ (cs rest : List Symbol) (c cd : ℕ) (conds : Row c cd cs) (b : Numbers) (branches : Branches rest b) where
+  abbrev test_of : Numbers
+  test_of = record { tokens = c + 3 + 1 + b.tokens; run = max (c + 3) b.run; depth = max (cd + 1) b.depth; items = b.items + 1 }
 
   abbrev test_symbols : List Symbol
-  test_symbols = word (codes "if") ∷ mark (codes "(") ∷ (cs ++ mark (codes ")") ∷ test_tail)
+  test_symbols = word (codes "if") ∷ mark (codes "(") ∷ (cs ++ mark (codes ")") ∷ opening ∷ rest)
 
   test_token : length test_symbols ≡ test_of.tokens
   test_token =
-      let a = length-append cs (mark (codes ")") ∷ test_tail) in
-      let d = length-append bs (mark (codes "}") ∷ []) in
+      let a = length-append cs (mark (codes ")") ∷ opening ∷ rest) in
       let e = count_is c cs conds.token in
-      let g = body.token in
-      omega (arith, a, d, e, g)
+      let g = branches.token in
+      omega (arith, a, e, g)
 
   abbrev test_run_symbols : List Symbol
   test_run_symbols = word (codes "if") ∷ mark (codes "(") ∷ (cs ++ mark (codes ")") ∷ [])
 
-  test_grouped : (test_run_symbols ++ mark (codes "{") ∷ []) ++ (bs ++ mark (codes "}") ∷ []) ≡ test_symbols
+  test_grouped : (test_run_symbols ++ opening ∷ []) ++ rest ≡ test_symbols
   test_grouped = ap (λ z. word (codes "if") ∷ mark (codes "(") ∷ z)
-      (ap (λ z. z ++ (bs ++ mark (codes "}") ∷ [])) (append_assoc cs (mark (codes ")") ∷ []) (mark (codes "{") ∷ [])) ∙ append_assoc cs (mark (codes ")") ∷ mark (codes "{") ∷ []) (bs ++ mark (codes "}") ∷ []))
+      (ap (λ z. z ++ rest) (append_assoc cs (mark (codes ")") ∷ []) (opening ∷ [])) ∙ append_assoc cs (mark (codes ")") ∷ opening ∷ []) rest)
 
   test_run : Runs test_of.run test_symbols
   test_run =
-      let one = run_ends (1 + (1 + (c + (1 + 0)))) test_run_symbols (mark (codes "{")) refl
+      let one = run_ends (1 + (1 + (c + (1 + 0)))) test_run_symbols opening refl
       (run_more _ (word (codes "if")) _ refl (run_more _ (mark (codes "(")) _ refl (adds_both count_run c (1 + 0) cs (mark (codes ")") ∷ []) conds.run (run_more 0 (mark (codes ")")) [] refl (none_added count_run))))) in
-      let last = runs_both b.run 0 bs (mark (codes "}") ∷ []) body.run (run_ends 0 [] (mark (codes "}")) refl (none_added count_run)) in
-      let all = runs_both _ _ (test_run_symbols ++ mark (codes "{") ∷ []) _ one last in
-      let size : max (1 + (1 + (c + (1 + 0)))) (max b.run 0) ≡ test_of.run = omega arith in
-      subst (λ n. Runs n test_symbols) size (subst (Runs (max (1 + (1 + (c + (1 + 0)))) (max b.run 0))) test_grouped all)
+      let all = runs_both (1 + (1 + (c + (1 + 0)))) b.run (test_run_symbols ++ opening ∷ []) rest one branches.run in
+      let size : max (1 + (1 + (c + (1 + 0)))) b.run ≡ test_of.run = omega arith in
+      subst (λ n. Runs n test_symbols) size (subst (Runs (max (1 + (1 + (c + (1 + 0)))) b.run)) test_grouped all)
 
-  test_bracketed : word (codes "if") ∷ ((mark (codes "(") ∷ (cs ++ mark (codes ")") ∷ [])) ++ test_tail) ≡ test_symbols
-  test_bracketed = ap (λ z. word (codes "if") ∷ mark (codes "(") ∷ z) (append_assoc cs (mark (codes ")") ∷ []) test_tail)
+  test_bracketed : word (codes "if") ∷ ((mark (codes "(") ∷ (cs ++ mark (codes ")") ∷ [])) ++ (opening ∷ rest)) ≡ test_symbols
+  test_bracketed = ap (λ z. word (codes "if") ∷ mark (codes "(") ∷ z) (append_assoc cs (mark (codes ")") ∷ []) (opening ∷ rest))
 
   test_brackets : Rises count_open test_of.depth test_symbols
   test_brackets =
       let round = rises_within cd (mark (codes "(")) (mark (codes ")")) cs refl refl refl conds.brackets in
-      let curly = rises_within b.depth (mark (codes "{")) (mark (codes "}")) bs refl refl refl body.brackets in
-      let all = rises_more _ (word (codes "if")) _ (word_bracket (codes "if")) (rises_both count_open _ _ (mark (codes "(") ∷ (cs ++ mark (codes ")") ∷ [])) test_tail round curly) in
-      let size : max (cd + 1) (b.depth + 1) ≡ test_of.depth = omega arith in
-      subst (λ n. Rises count_open n test_symbols) size (subst (Rises count_open (max (cd + 1) (b.depth + 1))) test_bracketed all)
+      let all = rises_more _ (word (codes "if")) _ (word_bracket (codes "if")) (rises_both count_open (cd + 1) b.depth (mark (codes "(") ∷ (cs ++ mark (codes ")") ∷ [])) (opening ∷ rest) round branches.brackets) in
+      subst (Rises count_open test_of.depth) test_bracketed all
 
   test_item : Adds count_item test_of.items test_symbols
   test_item =
-      let tail = items_more _ (mark (codes "{")) _ refl (adds_both count_item b.items 0 bs (mark (codes "}") ∷ []) body.item (items_more 0 (mark (codes "}")) [] refl (none_added count_item))) in
-      let all = items_one _ (word (codes "if")) _ refl (items_more _ (mark (codes "(")) _ refl (adds_both count_item 0 _ cs _ conds.item (items_more _ (mark (codes ")")) _ refl tail))) in
-      let size : 0 + (b.items + 0) + 1 ≡ test_of.items = omega arith in
+      let tail = items_more b.items opening rest refl branches.item in
+      let all = items_one _ (word (codes "if")) _ refl (items_more _ (mark (codes "(")) _ refl (adds_both count_item 0 b.items cs _ conds.item (items_more b.items (mark (codes ")")) (opening ∷ rest) refl tail))) in
+      let size : 0 + b.items + 1 ≡ test_of.items = omega arith in
       subst (λ n. Adds count_item n test_symbols) size all
 
-  pub test_counted : Counted test_symbols test_of
+  test_counted : Counted test_symbols test_of
   test_counted = record { token = test_token; run = test_run; brackets = test_brackets; item = test_item }
+
+module _ (cs bs : List Symbol) (c cd : ℕ) (conds : Row c cd cs) (b : Numbers) (body : Counted bs b) where
+  then_counted : Counted (test_symbols cs (bs ++ closing ∷ []) c cd conds (closed_of b) (one_branch bs b body)) (worded_of (closed_of (joined (line_of 3 c cd) b)))
+  then_counted =
+      let t : c + 3 + 1 + (b.tokens + 1) ≡ c + 3 + 1 + b.tokens + 1 = omega arith in
+      let d : max (cd + 1) (b.depth + 1) ≡ max cd b.depth + 1 = omega arith in
+      let i : b.items + 1 ≡ 0 + b.items + 1 = omega arith in
+      subst (Counted (test_symbols cs (bs ++ closing ∷ []) c cd conds (closed_of b) (one_branch bs b body)))
+      (same_numbers (test_of cs (bs ++ closing ∷ []) c cd conds (closed_of b) (one_branch bs b body)) (worded_of (closed_of (joined (line_of 3 c cd) b))) t refl d i)
+      (test_counted cs (bs ++ closing ∷ []) c cd conds (closed_of b) (one_branch bs b body))
+
+module _ (cs bs os : List Symbol) (c cd : ℕ) (conds : Row c cd cs) (b o : Numbers) (body : Counted bs b) (other : Counted os o) where
+  abbrev both_branches : Branches ((bs ++ closing ∷ []) ++ else_symbols bs os b o body other) (closed_of (joined (joined b else_of) o))
+  both_branches = two_branches bs os b o body other
+
+  abbrev either_symbols : List Symbol
+  either_symbols = word (codes "if") ∷ mark (codes "(") ∷ (cs ++ mark (codes ")") ∷ opening ∷ ((bs ++ closing ∷ []) ++ else_word ∷ opening ∷ (os ++ closing ∷ [])))
+
+  else_counted : Counted either_symbols (worded_of (closed_of (joined (joined (joined (line_of 3 c cd) b) else_of) o)))
+  else_counted =
+      let n = closed_of (joined (joined b else_of) o) in
+      let t : c + 3 + 1 + (b.tokens + (0 + 0 + 1 + (0 + 1 + 1)) + o.tokens + 1) ≡ c + 3 + 1 + b.tokens + (0 + 0 + 1 + (0 + 1 + 1)) + o.tokens + 1 = omega arith in
+      let r : max (c + 3) (max (max b.run (max 0 1)) o.run) ≡ max (max (max (c + 3) b.run) (max 0 1)) o.run = omega arith in
+      let d : max (cd + 1) (max (max b.depth (max 0 0)) o.depth + 1) ≡ max (max (max cd b.depth) (max 0 0)) o.depth + 1 = omega arith in
+      let i : b.items + (0 + 0) + o.items + 1 ≡ 0 + b.items + (0 + 0) + o.items + 1 = omega arith in
+      subst (Counted either_symbols)
+      (same_numbers (test_of cs ((bs ++ closing ∷ []) ++ else_symbols bs os b o body other) c cd conds n both_branches) (worded_of (closed_of (joined (joined (joined (line_of 3 c cd) b) else_of) o))) t r d i)
+      (test_counted cs ((bs ++ closing ∷ []) ++ else_symbols bs os b o body other) c cd conds n both_branches)
 
 -- ---- Lines: tokens in a row, and one of `;` and line ends
 
@@ -493,21 +596,51 @@ module _ (prelude : Bool) where
         counted = loop_counted iter (is_less rel) plain ls hs (stmts_symbols bt) s.count s.deep t.count t.deep s.row t.row b.numbers b.counted;
       }))
 
-  test_weighs : (cs : List Compare) (body : List Stmt) → Each Weighs body → Weighs (stmt.If cs body)
-  test_weighs cs body f k names quiet h =
-      let whole_so : (if_known k cs && stmts_known k body) ≡ true = ap (λ (g : Known → Bool). g k) (sym (if_here known.stmt_step cs body)) ∙ h in
-      let p = and_parts (if_known k cs) (stmts_known k body) whole_so in
+  else_fits : Fits else_head else_of
+  else_fits = fits_both (line 0 nothing) (line 1 nothing) _ _ (fits_line 0 nothing 0 0 refl refl) (fits_line 1 nothing 0 0 refl refl)
+
+  then_weighs : (c : Cond) (body : List Stmt) → Each Weighs body → Weighs (stmt.If c body [])
+  then_weighs c body f k names quiet h =
+      let whole_so : (cond_known k c && (stmts_known k body && true)) ≡ true = ap (λ (g : Known → Bool). g k) (sym (if_here known.stmt_step c body [])) ∙ h in
+      let p = and_parts (cond_known k c) (stmts_known k body && true) whole_so in
+      let q = and_parts (stmts_known k body) true p.1 in
       let bt = stmts_text {prelude = prelude} names no_stmts (map (stmt_text prelude) body) in
-      let s = conds_spans prelude names quiet cs in
-      let ss = conds_symbols (conds_text prelude names cs) in
+      let s = cond_spans prelude names quiet c in
+      let ss = cond_symbols (cond_text prelude names c) in
       let head : Numbers = line_of 3 s.count s.deep in
-      let b = body_shapes k names quiet no_stmts head (if_head prelude cs) (none_behind (if_head prelude cs) head (spans_fit 3 ss (conds_extent prelude cs) s)) body f p.1 in
-      subst (λ (g : Names → StmtText prelude). Shapes (stmt_symbols (g names)) (stmt_shape prelude (stmt.If cs body))) (sym (if_here (printed.stmt_step prelude) cs body))
-      (subst (Shapes (stmt_symbols {prelude = prelude} (simple (if_all (conds_text prelude names cs) (braces bt))))) (sym (if_here (spec.stmt_step prelude) cs body)) (record {
+      let b = body_shapes k names quiet no_stmts head (if_head prelude c) (none_behind (if_head prelude c) head (spans_fit 3 ss (cond_extent prelude c).extent s)) body f q.0 in
+      subst (λ (g : Names → StmtText prelude). Shapes (stmt_symbols (g names)) (stmt_shape prelude (stmt.If c body []))) (sym (if_here (printed.stmt_step prelude) c body []))
+      (subst (Shapes (stmt_symbols {prelude = prelude} (simple (if_then (cond_text prelude names c) (braces bt))))) (sym (if_here (spec.stmt_step prelude) c body [])) (record {
         numbers = worded_of (closed_of (joined head b.numbers));
-        fits = fits_worded (closed (stmts_behind prelude (if_head prelude cs) body)) _ (fits_closed (stmts_behind prelude (if_head prelude cs) body) _ b.fits);
-        counted = test_counted ss (stmts_symbols bt) s.count s.deep s.row b.numbers b.counted;
+        fits = fits_worded (closed (stmts_behind prelude (if_head prelude c) body)) _ (fits_closed (stmts_behind prelude (if_head prelude c) body) _ b.fits);
+        counted = then_counted ss (stmts_symbols bt) s.count s.deep s.row b.numbers b.counted;
       }))
+
+  else_weighs : (c : Cond) (body : List Stmt) (x : Stmt) (other : List Stmt) → Each Weighs body → Each Weighs (x ∷ other) → Weighs (stmt.If c body (x ∷ other))
+  else_weighs c body x other f g k names quiet h =
+      let whole_so : (cond_known k c && (stmts_known k body && stmts_known k (x ∷ other))) ≡ true = ap (λ (w : Known → Bool). w k) (sym (if_here known.stmt_step c body (x ∷ other))) ∙ h in
+      let p = and_parts (cond_known k c) (stmts_known k body && stmts_known k (x ∷ other)) whole_so in
+      let q = and_parts (stmts_known k body) (stmts_known k (x ∷ other)) p.1 in
+      let bt = stmts_text {prelude = prelude} names no_stmts (map (stmt_text prelude) body) in
+      let ot = stmts_text {prelude = prelude} names no_stmts (map (stmt_text prelude) (x ∷ other)) in
+      let s = cond_spans prelude names quiet c in
+      let ss = cond_symbols (cond_text prelude names c) in
+      let head : Numbers = line_of 3 s.count s.deep in
+      let b = body_shapes k names quiet no_stmts head (if_head prelude c) (none_behind (if_head prelude c) head (spans_fit 3 ss (cond_extent prelude c).extent s)) body f q.0 in
+      let middle : Numbers = joined (joined head b.numbers) else_of in
+      let start = both (stmts_behind prelude (if_head prelude c) body) else_head in
+      let o = body_shapes k names quiet no_stmts middle start (none_behind start middle (fits_both (stmts_behind prelude (if_head prelude c) body) else_head (joined head b.numbers) else_of b.fits else_fits)) (x ∷ other) g q.1 in
+      let all = stmts_behind prelude start (x ∷ other) in
+      subst (λ (w : Names → StmtText prelude). Shapes (stmt_symbols (w names)) (stmt_shape prelude (stmt.If c body (x ∷ other)))) (sym (if_here (printed.stmt_step prelude) c body (x ∷ other)))
+      (subst (Shapes (stmt_symbols {prelude = prelude} (simple (if_else (cond_text prelude names c) (braces bt) (braces ot))))) (sym (if_here (spec.stmt_step prelude) c body (x ∷ other))) (record {
+        numbers = worded_of (closed_of (joined middle o.numbers));
+        fits = fits_worded (closed all) _ (fits_closed all _ o.fits);
+        counted = else_counted ss (stmts_symbols bt) (stmts_symbols ot) s.count s.deep s.row b.numbers o.numbers b.counted o.counted;
+      }))
+
+  test_weighs : (c : Cond) (body other : List Stmt) → Each Weighs body → Each Weighs other → Weighs (stmt.If c body other)
+  test_weighs c body [] f g = then_weighs c body f
+  test_weighs c body (x ∷ other) f g = else_weighs c body x other f g
 
   assign_weighs : (o : Option Op) (id : ArrayId) (subs : List Ix) (v : Val) → Weighs (stmt.Assign o id subs v)
   assign_weighs o id subs v k names quiet h =

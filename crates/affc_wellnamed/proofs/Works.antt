@@ -9,24 +9,31 @@ use Rattle.affc_ast.specs.declared.tree.Op.{Op}
 use Rattle.affc_ast.specs.declared.tree.Rel.{Rel}
 use Rattle.affc_ast.specs.declared.tree.Ix.{Ix}
 use Rattle.affc_ast.specs.declared.tree.Compare.{Compare}
+use Rattle.affc_ast.specs.declared.tree.Cond.{Cond}
 use Rattle.affc_ast.specs.declared.tree.Val.{Val}
 use Rattle.affc_ast.specs.declared.tree.Stmt.{Stmt}
-use Rattle.affc_ast.specs.declared.tree.Stmt.TheVariants.{For}
+use Rattle.affc_ast.specs.declared.tree.Stmt.TheVariants.{For, If}
 use Rattle.affc_ast.specs.declared.tree.Decl.{Decl}
 use Rattle.affc_ast.specs.declared.tree.Param.{Param}
-use Rattle.affc_grammar.specs.Draft.{ValueDraft, load, constant, cast, complement, binary, shift, StmtsDraft, no_stmts, and_stmt, StmtDraft, for_loop, if_all, assign, block, DeclDraft, ParamDraft, number_param, array_param, PragmaDraft, range, context}
-use Rattle.affc_grammar.specs.Names.{Scope, each, array_named, why_declared, with_number, ix_tree, compare_tree, value_tree, locals_tree, head_tree, stmts_tree, stmt_tree, thing_of, why_ranged, decl_tree, range_of, param_tree, params_tree, temps_tree, with_param, with_array, pragmas_tree}
-use Rattle.affc_grammar.specs.Limits.{Assigned, assigned, assigned_in, loads_in, loops_past, loops_past_in, at_if, number_words, param_decls, is_range, ranges_past, contexts_past}
+use Rattle.affc_grammar.specs.Draft.{ValueDraft, load, constant, cast, complement, binary, shift, StmtsDraft, no_stmts, and_stmt, StmtDraft, for_loop, if_cond, assign, block, DeclDraft, ParamDraft, number_param, array_param, PragmaDraft, range, context}
+use Rattle.affc_grammar.specs.Names.{Scope, each, array_named, why_declared, with_number, ix_tree, compare_tree, value_tree, cond_tree, locals_tree, head_tree, stmts_tree, stmt_tree, thing_of, why_ranged, decl_tree, range_of, param_tree, params_tree, temps_tree, with_param, with_array, pragmas_tree}
+use Rattle.affc_grammar.specs.Limits.{Round, no_round, under_body, under_other, Assigned, assigned, assigned_in, loads_in, loops_past, loops_past_in, at_if, number_words, param_decls, is_range, ranges_past, contexts_past}
 use Rattle.affc_wellnamed.specs.declared.work.Work.{Work}
 use Rattle.affc_wellnamed.specs.Known.{is_number, number_count}
 use Rattle.affc_wellnamed.specs.Shape.{saturated, plus}
 use Rattle.affc_wellnamed.specs.Work.{load_step, loads, own_accesses, no_work, one_work, both, looped, stmt_step, work, stmts_behind, has_few, param_fits}
-use Rattle.affc_cprint.proofs.Arms.{for_here, if_here, block_here}
+use Rattle.affc_ast.proofs.Steps.{for_here, if_here, block_here, not_here, bin_here, shift_here}
 use Rattle.affc_cprint.proofs.Sees.{ok_of, both_ok, allowed_ok}
-use Rattle.affc_cprint.proofs.ReadBackValues.{each_length, not_here, bin_here, shift_here}
+use Rattle.affc_cprint.proofs.ReadBackValues.{each_length}
 use Rattle.affc_cprint.proofs.ReadBackParams.{some_range}
 use Rattle.affc_wellnamed.proofs.Counts.{not_below}
 use Rattle.affc_wellnamed.proofs.ShapeParts.{larger_is}
+
+pub if_arm : (x : Stmt) (c : Cond) (body slice other these : List Stmt) (n m b d r : Work) → x ≡ If c body other → slice ≡ body → these ≡ other
+    → n ≡ no_work → b ≡ stmts_behind n slice → m ≡ no_work → d ≡ stmts_behind m these → r ≡ both b d → r ≡ work x
+if_arm x c body slice other these n m b d r is same those p q s t u =
+    u ∙ ap (λ z. both z d) (q ∙ ap (λ z. stmts_behind z slice) p ∙ ap (stmts_behind no_work) same) ∙ ap (both (stmts_behind no_work body)) (t ∙ ap (λ z. stmts_behind z these) s ∙ ap (stmts_behind no_work) those)
+    ∙ sym (ap work is ∙ if_here stmt_step c body other)
 
 pub for_arm : (x : Stmt) (iter : List ℕ) (low : Ix) (rel : Rel) (high : Ix) (body slice : List Stmt) (n b r : Work) → x ≡ For iter low rel high body → slice ≡ body → n ≡ no_work → b ≡ stmts_behind n slice → r ≡ looped b → r ≡ work x
 for_arm x iter low rel high body slice n b r is same p q t =
@@ -60,13 +67,13 @@ loads_are scope (shift left a by) v e =
 abbrev pub many : Assigned → Bool
 many a = nat_lt 16 a.accesses
 
-pub record Busy (as' : ℕ → List Assigned) (places : (limit n : ℕ) → List ℕ) (w : Work) : Type 0 where
-  pub statements : (n : ℕ) → w.statements ≡ saturated (length (as' n))
-  pub crowded : (n : ℕ) → w.crowded ≡ list_any many (as' n)
+pub record Busy (as' : Round → List Assigned) (places : (limit n : ℕ) → List ℕ) (w : Work) : Type 0 where
+  pub statements : (r : Round) → w.statements ≡ saturated (length (as' r))
+  pub crowded : (r : Round) → w.crowded ≡ list_any many (as' r)
   pub nest : ℕ
   pub loops : w.loops ≡ saturated nest
-  pub idle : length (as' 0) ≡ 0 → (limit n : ℕ) → places limit n ≡ []
-  pub idle_nest : length (as' 0) ≡ 0 → nest ≡ 0
+  pub idle : length (as' no_round) ≡ 0 → (limit n : ℕ) → places limit n ≡ []
+  pub idle_nest : length (as' no_round) ≡ 0 → nest ≡ 0
   pub within : (limit n : ℕ) → n ≤ limit → places limit n ≡ [] → n + nest ≤ limit
   pub beyond : (limit n : ℕ) → n + nest ≤ limit → places limit n ≡ []
 
@@ -86,27 +93,27 @@ busy_none = record {
   beyond = λ limit n le. refl;
 }
 
-busy_both : (as' bs : ℕ → List Assigned) (ps qs : (limit n : ℕ) → List ℕ) (v w : Work) → Busy as' ps v → Busy bs qs w → Busy (λ n. as' n ++ bs n) (λ limit n. ps limit n ++ qs limit n) (both v w)
+busy_both : (as' bs : Round → List Assigned) (ps qs : (limit n : ℕ) → List ℕ) (v w : Work) → Busy as' ps v → Busy bs qs w → Busy (λ n. as' n ++ bs n) (λ limit n. ps limit n ++ qs limit n) (both v w)
 busy_both as' bs ps qs v w p q = record {
   statements = λ n. let a = p.statements n in let b = q.statements n in let l = length-append (as' n) (bs n) in omega (arith, a, b, l);
   crowded = λ n. ap (λ z. z || w.crowded) (p.crowded n) ∙ ap (λ z. list_any many (as' n) || z) (q.crowded n) ∙ sym (list_any-append many (as' n) (bs n));
   nest = max p.nest q.nest;
   loops = let a = p.loops in let b = q.loops in let l = larger_is v.loops w.loops in omega (arith, a, b, l);
-  idle = λ e limit n. let l = length-append (as' 0) (bs 0) in let left : length (as' 0) ≡ 0 = omega (arith, e, l) in let right : length (bs 0) ≡ 0 = omega (arith, e, l) in
+  idle = λ e limit n. let l = length-append (as' no_round) (bs no_round) in let left : length (as' no_round) ≡ 0 = omega (arith, e, l) in let right : length (bs no_round) ≡ 0 = omega (arith, e, l) in
       ap (λ z. z ++ qs limit n) (p.idle left limit n) ∙ q.idle right limit n;
-  idle_nest = λ e. let l = length-append (as' 0) (bs 0) in let left : length (as' 0) ≡ 0 = omega (arith, e, l) in let right : length (bs 0) ≡ 0 = omega (arith, e, l) in
+  idle_nest = λ e. let l = length-append (as' no_round) (bs no_round) in let left : length (as' no_round) ≡ 0 = omega (arith, e, l) in let right : length (bs no_round) ≡ 0 = omega (arith, e, l) in
       let a = p.idle_nest left in let b = q.idle_nest right in omega (arith, a, b);
   within = λ limit n le e. let s = none_of_both (ps limit n) (qs limit n) e in let a = p.within limit n le s.0 in let b = q.within limit n le s.1 in omega (arith, a, b);
   beyond = λ limit n le. let a : n + p.nest ≤ limit = omega (arith, le) in let b : n + q.nest ≤ limit = omega (arith, le) in ap (λ z. z ++ qs limit n) (p.beyond limit n a) ∙ q.beyond limit n b;
 }
 
-busy_loop : (at : ℕ) (as' : ℕ → List Assigned) (ps : (limit n : ℕ) → List ℕ) (w : Work) → Busy as' ps w → Busy as' (λ limit n. at_if (nat_le limit n && nat_lt 0 (length (as' 0))) at ++ ps limit (n + 1)) (looped w)
-busy_loop at as' ps w b = of (length (as' 0)) refl
+busy_loop : (at : ℕ) (as' : Round → List Assigned) (ps : (limit n : ℕ) → List ℕ) (w : Work) → Busy as' ps w → Busy as' (λ limit n. at_if (nat_le limit n && nat_lt 0 (length (as' no_round))) at ++ ps limit (n + 1)) (looped w)
+busy_loop at as' ps w b = of (length (as' no_round)) refl
   where
-    of : (k : ℕ) → length (as' 0) ≡ k → Busy as' (λ limit n. at_if (nat_le limit n && nat_lt 0 (length (as' 0))) at ++ ps limit (n + 1)) (looped w)
+    of : (k : ℕ) → length (as' no_round) ≡ k → Busy as' (λ limit n. at_if (nat_le limit n && nat_lt 0 (length (as' no_round))) at ++ ps limit (n + 1)) (looped w)
     of zero e =
-        let none : w.statements ≡ 0 = b.statements 0 ∙ ap saturated e in
-        let empty : (limit n : ℕ) → at_if (nat_le limit n && nat_lt 0 (length (as' 0))) at ++ ps limit (n + 1) ≡ [] =
+        let none : w.statements ≡ 0 = b.statements no_round ∙ ap saturated e in
+        let empty : (limit n : ℕ) → at_if (nat_le limit n && nat_lt 0 (length (as' no_round))) at ++ ps limit (n + 1) ≡ [] =
         λ limit n. ap (λ m. at_if (nat_le limit n && nat_lt 0 m) at ++ ps limit (n + 1)) e ∙ ap (λ z. at_if (nat_le limit n && z) at ++ ps limit (n + 1)) (le-ltb 0 0 (omega arith)) ∙ ap (λ z. at_if z at ++ ps limit (n + 1)) (and_off (nat_le limit n)) ∙ b.idle e limit (n + 1) in
         record {
           statements = b.statements;
@@ -123,9 +130,9 @@ busy_loop at as' ps w b = of (length (as' 0)) refl
         and_off true = refl
         and_off false = refl
     of (suc k) e =
-        let s = b.statements 0 in
+        let s = b.statements no_round in
         let some : 0 < w.statements = omega (arith, s, e) in
-        let has : nat_lt 0 (length (as' 0)) ≡ true = lt-ltb 0 (length (as' 0)) (omega (arith, e)) in
+        let has : nat_lt 0 (length (as' no_round)) ≡ true = lt-ltb 0 (length (as' no_round)) (omega (arith, e)) in
         let l = b.loops in
         let sum : plus w.loops 1 ≡ saturated (b.nest + 1) = omega (arith, l) in
         record {
@@ -136,13 +143,13 @@ busy_loop at as' ps w b = of (length (as' 0)) refl
           idle = λ q limit n. absurd (omega (arith, q, e));
           idle_nest = λ q. absurd (omega (arith, q, e));
           within = λ limit n le q.
-              let parts = none_of_both (at_if (nat_le limit n && nat_lt 0 (length (as' 0))) at) (ps limit (n + 1)) q in
-              let below : nat_le limit n ≡ false = off_at (nat_le limit n) (nat_lt 0 (length (as' 0))) has parts.0 in
+              let parts = none_of_both (at_if (nat_le limit n && nat_lt 0 (length (as' no_round))) at) (ps limit (n + 1)) q in
+              let below : nat_le limit n ≡ false = off_at (nat_le limit n) (nat_lt 0 (length (as' no_round))) has parts.0 in
               let more : n + 1 ≤ limit = strict limit n below in
               let rest = b.within limit (n + 1) more parts.1 in omega (arith, rest);
           beyond = λ limit n le.
               let below : nat_le limit n ≡ false = not_le limit n (omega (arith, le)) in
-              ap (λ z. at_if (z && nat_lt 0 (length (as' 0))) at ++ ps limit (n + 1)) below ∙ b.beyond limit (n + 1) (omega (arith, le));
+              ap (λ z. at_if (z && nat_lt 0 (length (as' no_round))) at ++ ps limit (n + 1)) below ∙ b.beyond limit (n + 1) (omega (arith, le));
         }
       where
         off_at : (x y : Bool) → y ≡ true → at_if (x && y) at ≡ [] → x ≡ false
@@ -169,12 +176,13 @@ busy_loop at as' ps w b = of (length (as' 0)) refl
             of_order (inl q) = absurd (false≢true (sym h ∙ le-leb a c q))
             of_order (inr q) = q
 
-busy_shift : (k : ℕ) (as' : ℕ → List Assigned) (ps : (limit n : ℕ) → List ℕ) (w : Work) → Busy as' ps w → Busy (λ n. as' (n + k)) ps w
-busy_shift k as' ps w b =
-    let none : length (as' (0 + k)) ≡ 0 → length (as' 0) ≡ 0 = λ e. let p = b.statements 0 in let q = b.statements (0 + k) in omega (arith, e, p, q) in
+-- under a condition
+busy_under : (g : Round → Round) (as' : Round → List Assigned) (ps : (limit n : ℕ) → List ℕ) (w : Work) → Busy as' ps w → Busy (λ r. as' (g r)) ps w
+busy_under g as' ps w b =
+    let none : length (as' (g no_round)) ≡ 0 → length (as' no_round) ≡ 0 = λ e. let p = b.statements no_round in let q = b.statements (g no_round) in omega (arith, e, p, q) in
     record {
-      statements = λ n. b.statements (n + k);
-      crowded = λ n. b.crowded (n + k);
+      statements = λ r. b.statements (g r);
+      crowded = λ r. b.crowded (g r);
       nest = b.nest;
       loops = b.loops;
       idle = λ e. b.idle (none e);
@@ -194,7 +202,7 @@ or_off : (z : Bool) → (z || false) ≡ z
 or_off true = refl
 or_off false = refl
 
-busy_assign : (at : ℕ) (o : Option Op) (v : ValueDraft) (loaded : ℕ) → loaded ≡ saturated (loads_in v) → Busy (λ n. record { at = at; accesses = loads_in v + own_accesses o; comparisons = n } ∷ []) (λ limit n. []) (one_work o loaded)
+busy_assign : (at : ℕ) (o : Option Op) (v : ValueDraft) (loaded : ℕ) → loaded ≡ saturated (loads_in v) → Busy (λ r. record { at = at; accesses = loads_in v + own_accesses o; round = r } ∷ []) (λ limit n. []) (one_work o loaded)
 busy_assign at o v loaded e = record {
   statements = λ n. refl;
   crowded = λ n. many_so loaded (loads_in v) (own_accesses o) e ∙ sym (or_off (nat_lt 16 (loads_in v + own_accesses o)));
@@ -211,7 +219,7 @@ one_more a [] x = refl
 one_more a (y ∷ xs) x = one_more (both a (work y)) xs x
 
 mutual
-  pub stmts_busy : (scope : Scope) (d : StmtsDraft) (xs : List Stmt) → stmts_tree scope d ≡ Ok xs → Busy (λ n. assigned n d) (λ limit n. loops_past limit n d) (stmts_behind no_work xs)
+  pub stmts_busy : (scope : Scope) (d : StmtsDraft) (xs : List Stmt) → stmts_tree scope d ≡ Ok xs → Busy (λ r. assigned r d) (λ limit n. loops_past limit n d) (stmts_behind no_work xs)
   stmts_busy scope no_stmts xs e = subst (λ l. Busy (λ n. []) (λ limit n. []) (stmts_behind no_work l)) (ok_of e) busy_none
   stmts_busy scope (and_stmt ss s) xs e =
       let p = both_ok (stmts_tree scope ss) _ xs e in
@@ -225,11 +233,14 @@ mutual
       let q = both_ok (stmts_tree (with_number true scope h.iterator.name) body) _ x p.2 in
       subst (Busy (λ n. assigned n body) (λ limit n. loops_past_in limit n (for_loop h body))) (sym (for_here stmt_step h.iterator.name p.0.0 h.rel p.0.1 q.0) ∙ ap work (ok_of q.2))
       (busy_loop h.at (λ n. assigned n body) (λ limit n. loops_past limit n body) (stmts_behind no_work q.0) (stmts_busy (with_number true scope h.iterator.name) body q.0 q.1))
-  stmt_busy scope (if_all at cs body) x e =
-      let p = both_ok (each (compare_tree scope) cs) _ x e in
+  stmt_busy scope (if_cond at c body other) x e =
+      let p = both_ok (cond_tree scope c) _ x e in
       let q = both_ok (stmts_tree scope body) _ x p.2 in
-      subst (Busy (λ n. assigned (n + length cs) body) (λ limit n. loops_past limit n body)) (sym (if_here stmt_step p.0 q.0) ∙ ap work (ok_of q.2))
-      (busy_shift (length cs) (λ n. assigned n body) (λ limit n. loops_past limit n body) (stmts_behind no_work q.0) (stmts_busy scope body q.0 q.1))
+      let s = both_ok (stmts_tree scope other) _ x q.2 in
+      subst (Busy (λ r. assigned (under_body c r) body ++ assigned (under_other c r) other) (λ limit n. loops_past limit n body ++ loops_past limit n other)) (sym (if_here stmt_step p.0 q.0 s.0) ∙ ap work (ok_of s.2))
+      (busy_both (λ r. assigned (under_body c r) body) (λ r. assigned (under_other c r) other) (λ limit n. loops_past limit n body) (λ limit n. loops_past limit n other) (stmts_behind no_work q.0) (stmts_behind no_work s.0)
+      (busy_under (under_body c) (λ r. assigned r body) (λ limit n. loops_past limit n body) (stmts_behind no_work q.0) (stmts_busy scope body q.0 q.1))
+      (busy_under (under_other c) (λ r. assigned r other) (λ limit n. loops_past limit n other) (stmts_behind no_work s.0) (stmts_busy scope other s.0 s.1)))
   stmt_busy scope (assign w subs None v) x e =
       let p = both_ok (array_named scope w.at w.name true (length subs)) _ x e in
       let q = both_ok (each (ix_tree scope) subs) _ x p.2 in

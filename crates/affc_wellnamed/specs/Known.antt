@@ -13,6 +13,9 @@ use Rattle.affc_ast.specs.declared.tree.Val.TheOpen.{Val-F}
 use Rattle.affc_ast.specs.declared.tree.Rel.{Rel}
 use Rattle.affc_ast.specs.declared.tree.Rel.TheVariants.{Less, LessEqual}
 use Rattle.affc_ast.specs.declared.tree.Compare.{Compare}
+use Rattle.affc_ast.specs.declared.tree.Cond.{Cond}
+use Rattle.affc_ast.specs.declared.tree.Cond.TheOpen as cond
+use Rattle.affc_ast.specs.declared.tree.Cond.TheOpen.{Cond-F}
 use Rattle.affc_ast.specs.declared.tree.Local.{Local}
 use Rattle.affc_ast.specs.declared.tree.Stmt.{Stmt}
 use Rattle.affc_ast.specs.declared.tree.Stmt.TheOpen as stmt
@@ -23,7 +26,8 @@ use Rattle.affc_ast.specs.declared.tree.Decl.{Decl}
 use Rattle.affc_ast.specs.declared.tree.Param.{Param}
 use Rattle.affc_ast.specs.declared.tree.Param.TheVariants.{Number, Array}
 use Rattle.affc_ast.specs.declared.tree.Program.{Program}
-use Rattle.affc_ast.specs.Recursion.{by_ix, by_val, by_stmt}
+use Rattle.affc_ast.specs.Joined.{is_ordered}
+use Rattle.affc_ast.specs.Recursion.{by_ix, by_val, by_cond, by_stmt}
 use Rattle.affc_grammar.specs.Grammar.{Name}
 use Rattle.affc_grammar.specs.Names.{is_time_name, is_input}
 use Rattle.affc_cprint.specs.Forms.{is_none}
@@ -79,9 +83,52 @@ abbrev pub ixs_known : Known → List Ix → Bool
 ixs_known known [] = true
 ixs_known known (e ∷ es) = ix_known known e && ixs_known known es
 
+-- ---- Conditions
+
+-- of a `context` line, which can't say "!="
+abbrev pub compare_known : Known → Compare → Bool
+compare_known known c = is_ordered c.rel && (ix_known known c.left && ix_known known c.right)
+
 abbrev pub compares_known : Known → List Compare → Bool
 compares_known known [] = true
-compares_known known (c ∷ cs) = (ix_known known c.left && ix_known known c.right) && compares_known known cs
+compares_known known (c ∷ cs) = compare_known known c && compares_known known cs
+
+-- whether conditions are joined by "&&", and whether by "||"
+pub record CondKnown : Type 0 where
+  pub is_all : Bool
+  pub is_any : Bool
+  pub is_known : Bool
+
+abbrev pub alone : (is_known : Bool) → CondKnown
+alone b = record { is_all = false; is_any = false; is_known = b }
+
+-- by "&&", or by "||"
+abbrev pub is_joined_by : (all : Bool) → CondKnown → Bool
+is_joined_by true c = c.is_all
+is_joined_by false c = c.is_any
+
+-- known, and not joined by the same
+abbrev pub entry_known : (all : Bool) → CondKnown → Bool
+entry_known all c = not (is_joined_by all c) && c.is_known
+
+abbrev pub each_known : (all : Bool) → List CondKnown → Bool
+each_known all [] = true
+each_known all (c ∷ cs) = entry_known all c && each_known all cs
+
+abbrev pub joined_known : (all : Bool) → List CondKnown → Bool
+joined_known all cs = nat_le 2 (length cs) && each_known all cs
+
+abbrev pub cond_step : Known → Cond-F CondKnown → CondKnown
+cond_step known (cond.Compare rel left right) = alone (ix_known known left && ix_known known right)
+cond_step known (cond.All cs) = record { is_all = true; is_any = false; is_known = joined_known true cs }
+cond_step known (cond.Any cs) = record { is_all = false; is_any = true; is_known = joined_known false cs }
+cond_step known (cond.Divides value by so) = alone (is_divisor by && ix_known known value)
+
+abbrev pub cond_seen : Known → Cond → CondKnown
+cond_seen known c = by_cond (cond_step known) c
+
+abbrev pub cond_known : Known → Cond → Bool
+cond_known known c = (cond_seen known c).is_known
 
 -- ---- Values
 
@@ -120,12 +167,9 @@ abbrev pub all_at : Known → List (Known → Bool) → Bool
 all_at known [] = true
 all_at known (f ∷ fs) = f known && all_at known fs
 
--- a loop's head, a test's conditions, an assignment, a block's locals
+-- a loop's head, an assignment, a block's locals
 abbrev pub for_known : Known → Name → Ix → Rel → Ix → Bool
 for_known known iter low rel high = is_new known true iter && (is_bound rel && (ix_known known low && ix_known known high))
-
-abbrev pub if_known : Known → List Compare → Bool
-if_known known cs = not (is_none cs) && compares_known known cs
 
 abbrev pub assign_known : Known → (array : ℕ) → List Ix → Val → Bool
 assign_known known array subs v = takes true (length subs) (slice_get known.arrays array) && (ixs_known known subs && value_known known v)
@@ -135,7 +179,7 @@ block_known known ls = (known.prelude || is_none ls) && locals_known known [] ls
 
 abbrev pub stmt_step : Stmt-F (Known → Bool) → Known → Bool
 stmt_step (stmt.For iter low rel high body) known = for_known known iter low rel high && all_at (and_iterator known iter) body
-stmt_step (stmt.If cs body) known = if_known known cs && all_at known body
+stmt_step (stmt.If c body other) known = cond_known known c && (all_at known body && all_at known other)
 stmt_step (stmt.Assign op id subs v) known = assign_known known id.0 subs v
 stmt_step (stmt.Block ls body) known = block_known known ls && all_at (and_locals known ls) body
 

@@ -1,11 +1,14 @@
 -- How many tokens a tree is printed with, how long its longest run of tokens is between two of `;` `{` `}` and line ends, how many brackets stand open at
 -- once, and how many words are `for` or `if`. Numbers past those of 64 bits count as the greatest of them.
-use Rattle.std.specs.Prelude.{ℕ, ◌+◌, ◌-◌, ◌^◌, Bool, true, false, ◌&&◌, nat_lt, nat_le, min, List, [], ◌∷◌, map, ℤ, pos, int_lt, if◌then◌else◌}
+use Rattle.std.specs.Prelude.{ℕ, ◌+◌, ◌-◌, ◌^◌, Bool, true, false, ◌&&◌, nat_lt, nat_le, min, List, [], ◌∷◌, length, map, ℤ, pos, int_lt, if◌then◌else◌}
 use Rattle.affc_ast.specs.declared.tree.Ix.{Ix}
 use Rattle.affc_ast.specs.declared.tree.Ix.TheOpen as ix
 use Rattle.affc_ast.specs.declared.tree.Ix.TheOpen.{Ix-F}
 use Rattle.affc_ast.specs.declared.tree.Op.{Op}
 use Rattle.affc_ast.specs.declared.tree.Compare.{Compare}
+use Rattle.affc_ast.specs.declared.tree.Cond.{Cond}
+use Rattle.affc_ast.specs.declared.tree.Cond.TheOpen as cond
+use Rattle.affc_ast.specs.declared.tree.Cond.TheOpen.{Cond-F}
 use Rattle.affc_ast.specs.declared.tree.Local.{Local}
 use Rattle.affc_ast.specs.declared.tree.Val.{Val}
 use Rattle.affc_ast.specs.declared.tree.Val.TheOpen as val
@@ -18,7 +21,7 @@ use Rattle.affc_ast.specs.declared.tree.Decl.{Decl}
 use Rattle.affc_ast.specs.declared.tree.Param.{Param}
 use Rattle.affc_ast.specs.declared.tree.Param.TheVariants.{Number, Array}
 use Rattle.affc_ast.specs.declared.tree.Program.{Program}
-use Rattle.affc_ast.specs.Recursion.{by_ix, by_val, by_stmt}
+use Rattle.affc_ast.specs.Recursion.{by_ix, by_val, by_cond, by_stmt}
 use Rattle.affc_grammar.specs.Grammar.{level_of}
 use Rattle.affc_grammar.specs.Limits.{wide_limits}
 use Rattle.affc_grammar.specs.Names.{is_input}
@@ -32,6 +35,9 @@ use Rattle.affc_wellnamed.specs.declared.shape.Extent.{Extent}
 use Rattle.affc_wellnamed.specs.declared.shape.Binding.{Binding}
 use Rattle.affc_wellnamed.specs.declared.shape.Binding.TheVariants.{Sum, Product, Atom, Call}
 use Rattle.affc_wellnamed.specs.declared.shape.IxExtent.{IxExtent}
+use Rattle.affc_wellnamed.specs.declared.shape.Joint.{Joint}
+use Rattle.affc_wellnamed.specs.declared.shape.Joint.TheVariants.{Alone, All, Any}
+use Rattle.affc_wellnamed.specs.declared.shape.CondExtent.{CondExtent}
 use Rattle.affc_wellnamed.specs.declared.shape.ValExtent.{ValExtent}
 use Rattle.affc_wellnamed.specs.declared.shape.Shape.{Shape}
 
@@ -125,16 +131,59 @@ abbrev pub dims_behind : (prelude : Bool) → Extent → List Ix → Extent
 dims_behind prelude a [] = a
 dims_behind prelude a (e ∷ es) = dims_behind prelude (beside a (bracketed (whole prelude e))) es
 
+-- ---- Conditions
+
+abbrev pub sides_extent : (prelude : Bool) → (left right : Ix) → Extent
+sides_extent prelude left right = and_tokens 1 (beside (whole prelude left) (whole prelude right))
+
 abbrev pub compare_extent : (prelude : Bool) → Compare → Extent
-compare_extent prelude c = and_tokens 1 (beside (whole prelude c.left) (whole prelude c.right))
+compare_extent prelude c = sides_extent prelude c.left c.right
 
 abbrev pub compares_behind : (prelude : Bool) → Extent → List Compare → Extent
 compares_behind prelude a [] = a
 compares_behind prelude a (c ∷ cs) = compares_behind prelude (and_tokens 1 (beside a (compare_extent prelude c))) cs
 
-abbrev pub conds_extent : (prelude : Bool) → List Compare → Extent
-conds_extent prelude [] = record { tokens = 3; depth = 0 }
-conds_extent prelude (c ∷ cs) = compares_behind prelude (compare_extent prelude c) cs
+-- whether a condition has brackets beside "&&", or beside "||"
+abbrev pub has_brackets : (all : Bool) → Joint → Bool
+has_brackets all Alone = false
+has_brackets all All = all
+has_brackets all Any = true
+
+abbrev pub beside_mark : (all : Bool) → CondExtent → Extent
+beside_mark all c = bracketed_if (has_brackets all c.joint) c.extent
+
+abbrev pub alone : Extent → CondExtent
+alone a = record { extent = a; joint = Alone }
+
+abbrev pub no_condition : CondExtent
+no_condition = alone (record { tokens = 3; depth = 0 })
+
+abbrev pub joint_of : (all : Bool) → Joint
+joint_of true = All
+joint_of false = Any
+
+-- behind so much, conditions that are joined, without the marks
+abbrev pub entries_behind : (all : Bool) → Extent → List CondExtent → Extent
+entries_behind all a [] = a
+entries_behind all a (c ∷ cs) = entries_behind all (beside a (beside_mark all c)) cs
+
+abbrev pub joined_extent : (all : Bool) → List CondExtent → CondExtent
+joined_extent all [] = no_condition
+joined_extent all (c ∷ cs) = record { extent = and_tokens (length cs) (entries_behind all nothing (c ∷ cs)); joint = joint_of all }
+
+-- a term, "%", a number, "==" or "!=", and "0"
+abbrev pub remainder_extent : Bool → Extent → CondExtent
+remainder_extent true a = alone (and_tokens 4 a)
+remainder_extent false a = no_condition
+
+abbrev pub cond_step : (prelude : Bool) → Cond-F CondExtent → CondExtent
+cond_step prelude (cond.Compare rel left right) = alone (sides_extent prelude left right)
+cond_step prelude (cond.All cs) = joined_extent true cs
+cond_step prelude (cond.Any cs) = joined_extent false cs
+cond_step prelude (cond.Divides value by so) = remainder_extent (divides true by) (placed RightOfSum (ix_extent prelude value))
+
+abbrev pub cond_extent : (prelude : Bool) → Cond → CondExtent
+cond_extent prelude c = by_cond (cond_step prelude) c
 
 -- ---- Values
 
@@ -191,8 +240,16 @@ locals_behind false a ls = a
 abbrev pub for_head : (prelude : Bool) → Ix → Ix → Shape
 for_head prelude low high = both (both (line 5 (whole prelude low)) (line 2 (whole prelude high))) (line 3 nothing)
 
-abbrev pub if_head : (prelude : Bool) → List Compare → Shape
-if_head prelude cs = line 3 (conds_extent prelude cs)
+abbrev pub if_head : (prelude : Bool) → Cond → Shape
+if_head prelude c = line 3 (cond_extent prelude c).extent
+
+-- `}`, and `else {`
+abbrev pub else_head : Shape
+else_head = both (line 0 nothing) (line 1 nothing)
+
+abbrev pub other_behind : Shape → List Shape → Shape
+other_behind a [] = a
+other_behind a (s ∷ ss) = all_behind (both a else_head) (s ∷ ss)
 
 abbrev pub assign_line : (prelude : Bool) → List Ix → Val → Shape
 assign_line prelude subs v = line 1 (beside (dims_behind prelude (record { tokens = 1; depth = 0 }) subs) (at_level Or (val_extent prelude v)))
@@ -202,7 +259,7 @@ block_head prelude ls = locals_behind prelude (line 0 nothing) ls
 
 abbrev pub stmt_step : (prelude : Bool) → Stmt-F Shape → Shape
 stmt_step prelude (stmt.For iter low rel high body) = worded (closed (all_behind (for_head prelude low high) body))
-stmt_step prelude (stmt.If cs body) = worded (closed (all_behind (if_head prelude cs) body))
+stmt_step prelude (stmt.If c body other) = worded (closed (other_behind (all_behind (if_head prelude c) body) other))
 stmt_step prelude (stmt.Assign op id subs v) = assign_line prelude subs v
 stmt_step prelude (stmt.Block ls body) = closed (all_behind (block_head prelude ls) body)
 
@@ -211,6 +268,9 @@ stmt_shape prelude s = by_stmt (stmt_step prelude) s
 
 abbrev pub stmts_behind : (prelude : Bool) → Shape → List Stmt → Shape
 stmts_behind prelude a body = all_behind a (map (stmt_shape prelude) body)
+
+abbrev pub branch_behind : (prelude : Bool) → Shape → List Stmt → Shape
+branch_behind prelude a other = other_behind a (map (stmt_shape prelude) other)
 
 -- ---- The program
 
@@ -228,7 +288,7 @@ ranges_behind a (Array d ∷ qs) = ranges_behind a qs
 
 abbrev pub context_behind : Shape → List Compare → Shape
 context_behind a [] = a
-context_behind a (c ∷ cs) = both a (line 4 (conds_extent true (c ∷ cs)))
+context_behind a (c ∷ cs) = both a (line 4 (compares_behind true (compare_extent true c) cs))
 
 abbrev pub head_tokens : Role → Extent
 head_tokens role = record { tokens = (if is_input role then 3 else 2); depth = 0 }

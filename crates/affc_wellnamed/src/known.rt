@@ -1,13 +1,15 @@
 //! What of a tree a text can say where it stands.
-ghost use Rattle.std.specs.Prelude.{◌≡◌, ◌^◌, Bool, [], nat_lt};
+ghost use Rattle.std.specs.Prelude.{◌≡◌, ◌^◌, Bool, [], map, nat_lt};
 ghost use Rattle.std.specs.List.{list_all};
 ghost use Rattle.affc_lex.specs.Bytes.{is_letter_or_digit};
 ghost use Rattle.affc_lex.specs.Pieces as pieces;
+ghost use Rattle.affc_ast.specs.Joined.{is_ordered};
+ghost use Rattle.affc_wellnamed.specs.Known.{Known};
 ghost use Rattle.affc_wellnamed.specs.Known as known;
 ghost use Rattle.affc_wellnamed.specs.Sights.{known_in};
 
 use crate::sight::{Sight, has_array, has_number, is_taken};
-use affc_ast::tree::{Compare, Decl, Ix, Local, Param, Program, Rel, Role, Stmt, Val};
+use affc_ast::tree::{Compare, Cond, Decl, Ix, Local, Param, Program, Rel, Role, Stmt, Val};
 use affc_lex::scan::{is_letter, is_letter_or_digit};
 use affc_names::reserved::{is_reserved, is_time_name};
 
@@ -86,11 +88,81 @@ fn ixs_known(es: &[Ix], prelude: bool, sight: &Sight<'_>) -> bool
     true
 }
 
+// ---- Conditions
+
+// Any relation but `!=`.
+fn is_ordered(rel: Rel) -> bool
+    ensures { result ≡ is_ordered rel }
+{
+    !matches!(rel, Rel::NotEqual)
+}
+
+fn compare_known(c: &Compare, prelude: bool, sight: &Sight<'_>) -> bool
+    ensures { result ≡ known.compare_known (known_in prelude sight.now) c.now }
+{
+    is_ordered(c.rel) && (ix_known(&c.left, prelude, sight) && ix_known(&c.right, prelude, sight))
+}
+
 fn compares_known(cs: &[Compare], prelude: bool, sight: &Sight<'_>) -> bool
     ensures { result ≡ known.compares_known (known_in prelude sight.now) cs.now }
 {
     for c in cs {
-        if !(ix_known(&c.left, prelude, sight) && ix_known(&c.right, prelude, sight)) {
+        if !compare_known(c, prelude, sight) {
+            return false;
+        }
+    }
+    true
+}
+
+// Whether conditions are joined by `&&`, or by `||`.
+#[tactic(auto, using(affc_ast::proofs::Outs::cond_outs))]
+fn is_joined_by(all: bool, c: &Cond) -> bool
+    ensures { (k : Known) → result ≡ known.is_joined_by all (known.cond_seen k c.now) }
+{
+    match c {
+        Cond::All(_) => all,
+        Cond::Any(_) => !all,
+        Cond::Compare { .. } | Cond::Divides { .. } => false,
+    }
+}
+
+#[cycle(conditions)]
+#[tactic(auto, using(affc_ast::proofs::Outs::cond_outs))]
+fn cond_known(c: &Cond, prelude: bool, sight: &Sight<'_>) -> bool
+    ensures { result ≡ known.cond_known (known_in prelude sight.now) c.now }
+{
+    match c {
+        Cond::Compare { left, right, .. } => {
+            ix_known(left, prelude, sight) && ix_known(right, prelude, sight)
+        }
+        Cond::All(entries) => joined_known(true, entries.as_slice(), prelude, sight),
+        Cond::Any(entries) => joined_known(false, entries.as_slice(), prelude, sight),
+        Cond::Divides { value, by, .. } => is_divisor(*by) && ix_known(value, prelude, sight),
+    }
+}
+
+// Whether one is known that isn't joined by the same.
+#[cycle(conditions)]
+fn entry_known(all: bool, c: &Cond, prelude: bool, sight: &Sight<'_>) -> bool
+    ensures { result ≡ known.entry_known all (known.cond_seen (known_in prelude sight.now) c.now) }
+{
+    !is_joined_by(all, c) && cond_known(c, prelude, sight)
+}
+
+// At least two conditions, none of which is joined by the same.
+#[cycle(conditions)]
+fn joined_known(all: bool, cs: &[Cond], prelude: bool, sight: &Sight<'_>) -> bool
+    ensures { result ≡ known.joined_known all (map (known.cond_seen (known_in prelude sight.now)) cs.now) }
+{
+    2 <= cs.len() && each_known(all, cs, prelude, sight)
+}
+
+#[cycle(conditions)]
+fn each_known(all: bool, cs: &[Cond], prelude: bool, sight: &Sight<'_>) -> bool
+    ensures { result ≡ known.each_known all (map (known.cond_seen (known_in prelude sight.now)) cs.now) }
+{
+    for c in cs {
+        if !entry_known(all, c, prelude, sight) {
             return false;
         }
     }
@@ -165,12 +237,6 @@ fn for_known(
         && (is_bound(rel) && (ix_known(low, prelude, sight) && ix_known(high, prelude, sight)))
 }
 
-fn if_known(conds: &[Compare], prelude: bool, sight: &Sight<'_>) -> bool
-    ensures { result ≡ known.if_known (known_in prelude sight.now) conds.now }
-{
-    !conds.is_empty() && compares_known(conds, prelude, sight)
-}
-
 fn assign_known(array: usize, subs: &[Ix], value: &Val, prelude: bool, sight: &Sight<'_>) -> bool
     ensures { result ≡ known.assign_known (known_in prelude sight.now) array subs.now value.now }
 {
@@ -204,9 +270,10 @@ fn stmt_known<'a>(s: &'a Stmt, prelude: bool, sight: &'a Sight<'a>) -> bool
                     &Sight::Iterator(iter.as_str(), sight),
                 )
         }
-        Stmt::If { conds, body } => {
-            if_known(conds.as_slice(), prelude, sight)
-                && stmts_known(body.as_slice(), prelude, sight)
+        Stmt::If { cond, body, other } => {
+            cond_known(cond, prelude, sight)
+                && (stmts_known(body.as_slice(), prelude, sight)
+                    && stmts_known(other.as_slice(), prelude, sight))
         }
         Stmt::Assign {
             array,

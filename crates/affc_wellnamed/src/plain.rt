@@ -1,10 +1,10 @@
 //! What is asked of each expression of a tree: products and numbers.
-ghost use Rattle.std.specs.Prelude.{◌≡◌};
+ghost use Rattle.std.specs.Prelude.{◌≡◌, map};
 ghost use Rattle.std.specs.List.{list_all};
 ghost use Rattle.affc_cprint.specs.Forms as spec;
 ghost use Rattle.affc_wellnamed.specs.Plain.{is_plain, seen};
 
-use affc_ast::tree::{Compare, Decl, Ix, Local, Param, Program, Stmt, Val};
+use affc_ast::tree::{Compare, Cond, Decl, Ix, Local, Param, Program, Stmt, Val};
 
 // Whether an expression holds names, one side of each product in it holds none, and no number in it passes the limit.
 #[derive(Clone, Copy)]
@@ -115,6 +115,30 @@ fn compares_plain(cs: &[Compare]) -> bool
     true
 }
 
+#[cycle(conditions)]
+#[tactic(auto, using(affc_ast::proofs::Outs::cond_outs))]
+fn cond_plain(c: &Cond) -> bool
+    ensures { result ≡ spec.cond_passes is_plain c.now }
+{
+    match c {
+        Cond::Compare { left, right, .. } => is_plain(left) && is_plain(right),
+        Cond::All(entries) | Cond::Any(entries) => conds_plain(entries.as_slice()),
+        Cond::Divides { value, .. } => is_plain(value),
+    }
+}
+
+#[cycle(conditions)]
+fn conds_plain(cs: &[Cond]) -> bool
+    ensures { result ≡ list_all (λ b. b) (map (spec.cond_passes is_plain) cs.now) }
+{
+    for c in cs {
+        if !cond_plain(c) {
+            return false;
+        }
+    }
+    true
+}
+
 #[tactic(auto, using(affc_ast::proofs::Outs::val_outs))]
 fn value_plain(v: &Val) -> bool
     ensures { result ≡ spec.value_passes is_plain v.now }
@@ -151,8 +175,8 @@ fn stmt_plain(s: &Stmt) -> bool
             body,
             ..
         } => is_plain(low) && (is_plain(high) && stmts_plain(body.as_slice())),
-        Stmt::If { conds, body } => {
-            compares_plain(conds.as_slice()) && stmts_plain(body.as_slice())
+        Stmt::If { cond, body, other } => {
+            cond_plain(cond) && (stmts_plain(body.as_slice()) && stmts_plain(other.as_slice()))
         }
         Stmt::Assign { subs, value, .. } => are_plain(subs.as_slice()) && value_plain(value),
         Stmt::Block { locals, body } => {

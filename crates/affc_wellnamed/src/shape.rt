@@ -1,8 +1,8 @@
 //! How many tokens a tree is printed with, and how they stand.
-ghost use Rattle.std.specs.Prelude.{◌≡◌};
+ghost use Rattle.std.specs.Prelude.{◌≡◌, map};
 ghost use Rattle.affc_wellnamed.specs.Shape as spec;
 
-use affc_ast::tree::{Compare, Decl, Ix, Local, Param, Program, Role, Stmt, Val};
+use affc_ast::tree::{Compare, Cond, Decl, Ix, Local, Param, Program, Role, Stmt, Val};
 use affc_cprint::brackets::{Level, Place, is_divided, left_of, level_of, right_of};
 
 pub fn plus(a: u64, b: u64) -> u64
@@ -215,10 +215,19 @@ fn dims_behind(prelude: bool, before: Extent, es: &[Ix]) -> Extent
     all
 }
 
+// ---- Conditions
+
+// Sides of a comparison.
+fn sides_extent(prelude: bool, left: &Ix, right: &Ix) -> Extent
+    ensures { result ≡ spec.sides_extent prelude left.now right.now }
+{
+    and_tokens(1, beside(whole(prelude, left), whole(prelude, right)))
+}
+
 fn compare_extent(prelude: bool, c: &Compare) -> Extent
     ensures { result ≡ spec.compare_extent prelude c.now }
 {
-    and_tokens(1, beside(whole(prelude, &c.left), whole(prelude, &c.right)))
+    sides_extent(prelude, &c.left, &c.right)
 }
 
 fn compares_behind(prelude: bool, before: Extent, cs: &[Compare]) -> Extent
@@ -231,13 +240,112 @@ fn compares_behind(prelude: bool, before: Extent, cs: &[Compare]) -> Extent
     all
 }
 
-fn conds_extent(prelude: bool, cs: &[Compare]) -> Extent
-    ensures { result ≡ spec.conds_extent prelude cs.now }
+// How the parts of a condition are joined.
+#[derive(Clone, Copy)]
+pub enum Joint {
+    Alone,
+    All,
+    Any,
+}
+
+// A condition without brackets round it.
+#[derive(Clone, Copy)]
+pub struct CondExtent {
+    extent: Extent,
+    joint: Joint,
+}
+
+// Whether it has brackets beside `&&`, or beside `||`.
+fn has_brackets(all: bool, joint: Joint) -> bool
+    ensures { result ≡ spec.has_brackets all joint }
 {
-    match cs {
-        [] => some_tokens(3),
-        [c, rest @ ..] => compares_behind(prelude, compare_extent(prelude, c), rest),
+    match joint {
+        Joint::Alone => false,
+        Joint::All => all,
+        Joint::Any => true,
     }
+}
+
+fn beside_mark(all: bool, c: CondExtent) -> Extent
+    ensures { result ≡ spec.beside_mark all c }
+{
+    bracketed_if(has_brackets(all, c.joint), c.extent)
+}
+
+fn joint_of(all: bool) -> Joint
+    ensures { result ≡ spec.joint_of all }
+{
+    if all { Joint::All } else { Joint::Any }
+}
+
+fn alone(extent: Extent) -> CondExtent
+    ensures { result ≡ spec.alone extent }
+{
+    CondExtent {
+        extent,
+        joint: Joint::Alone,
+    }
+}
+
+fn no_condition() -> CondExtent
+    ensures { result ≡ spec.no_condition }
+{
+    alone(some_tokens(3))
+}
+
+// A term, `%`, a number, `==` or `!=`, and `0`.
+fn remainder_extent(may_stand: bool, value: Extent) -> CondExtent
+    ensures { result ≡ spec.remainder_extent may_stand value }
+{
+    if may_stand {
+        alone(and_tokens(4, value))
+    } else {
+        no_condition()
+    }
+}
+
+#[cycle(conditions)]
+#[tactic(auto, using(affc_ast::proofs::Outs::cond_outs))]
+fn cond_extent(prelude: bool, c: &Cond) -> CondExtent
+    ensures { result ≡ spec.cond_extent prelude c.now }
+{
+    match c {
+        Cond::Compare { left, right, .. } => alone(sides_extent(prelude, left, right)),
+        Cond::All(entries) => conds_extent(true, prelude, entries.as_slice()),
+        Cond::Any(entries) => conds_extent(false, prelude, entries.as_slice()),
+        Cond::Divides { value, by, .. } => remainder_extent(
+            is_divided(true, *by),
+            placed(Place::RightOfSum, ix_extent(prelude, value)),
+        ),
+    }
+}
+
+// A mark stands before each but the first.
+#[cycle(conditions)]
+fn conds_extent(all: bool, prelude: bool, cs: &[Cond]) -> CondExtent
+    ensures { result ≡ spec.joined_extent all (map (spec.cond_extent prelude) cs.now) }
+{
+    if cs.is_empty() {
+        return no_condition();
+    }
+    let entries = entries_behind(all, prelude, some_tokens(0), cs);
+    let marks = cs.len() as u64 - 1;
+    CondExtent {
+        extent: and_tokens(marks, entries),
+        joint: joint_of(all),
+    }
+}
+
+// Behind so much, conditions that are joined, without the marks.
+#[cycle(conditions)]
+fn entries_behind(all: bool, prelude: bool, before: Extent, cs: &[Cond]) -> Extent
+    ensures { result ≡ spec.entries_behind all before (map (spec.cond_extent prelude) cs.now) }
+{
+    let mut row = before;
+    for c in cs {
+        row = beside(row, beside_mark(all, cond_extent(prelude, c)));
+    }
+    row
 }
 
 // ---- Values
@@ -381,10 +489,17 @@ fn for_head(prelude: bool, low: &Ix, high: &Ix) -> Shape
     both(bounds, bare_line(3))
 }
 
-fn if_head(prelude: bool, conds: &[Compare]) -> Shape
-    ensures { result ≡ spec.if_head prelude conds.now }
+fn if_head(prelude: bool, c: &Cond) -> Shape
+    ensures { result ≡ spec.if_head prelude c.now }
 {
-    line(3, conds_extent(prelude, conds))
+    line(3, cond_extent(prelude, c).extent)
+}
+
+// The brace that closes a body, and `else {`.
+fn else_head() -> Shape
+    ensures { result ≡ spec.else_head }
+{
+    both(bare_line(0), bare_line(1))
 }
 
 fn assign_line(prelude: bool, subs: &[Ix], value: &Val) -> Shape
@@ -415,11 +530,10 @@ fn stmt_shape(prelude: bool, s: &Stmt) -> Shape
             body,
             ..
         } => worded(closed(stmts_behind(prelude, for_head(prelude, low, high), body.as_slice()))),
-        Stmt::If { conds, body } => worded(closed(stmts_behind(
-            prelude,
-            if_head(prelude, conds.as_slice()),
-            body.as_slice(),
-        ))),
+        Stmt::If { cond, body, other } => {
+            let body = stmts_behind(prelude, if_head(prelude, cond), body.as_slice());
+            worded(closed(branch_behind(prelude, body, other.as_slice())))
+        }
         Stmt::Assign { subs, value, .. } => assign_line(prelude, subs.as_slice(), value),
         Stmt::Block { locals, body } => closed(stmts_behind(
             prelude,
@@ -439,6 +553,18 @@ fn stmts_behind(prelude: bool, before: Shape, body: &[Stmt]) -> Shape
         all = both(all, stmt_shape(prelude, s));
     }
     all
+}
+
+// What follows an `else`, if there is any.
+#[cycle(statements)]
+fn branch_behind(prelude: bool, before: Shape, other: &[Stmt]) -> Shape
+    ensures { result ≡ spec.branch_behind prelude before other.now }
+{
+    if other.is_empty() {
+        before
+    } else {
+        stmts_behind(prelude, both(before, else_head()), other)
+    }
 }
 
 // ---- The program
@@ -471,10 +597,12 @@ fn ranges_behind(before: Shape, params: &[Param]) -> Shape
 fn context_behind(before: Shape, context: &[Compare]) -> Shape
     ensures { result ≡ spec.context_behind before context.now }
 {
-    if context.is_empty() {
-        before
-    } else {
-        both(before, line(4, conds_extent(true, context)))
+    match context {
+        [] => before,
+        [c, rest @ ..] => both(
+            before,
+            line(4, compares_behind(true, compare_extent(true, c), rest)),
+        ),
     }
 }
 

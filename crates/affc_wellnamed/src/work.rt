@@ -1,12 +1,13 @@
 //! What the limits on statements, arrays and lines ask of a tree.
-ghost use Rattle.std.specs.Prelude.{◌≡◌};
+ghost use Rattle.std.specs.Prelude.{◌≡◌, map};
 ghost use Rattle.std.specs.List.{list_all};
+ghost use Rattle.affc_ast.specs.Fits.{all_true};
 ghost use Rattle.affc_grammar.specs.Limits.{is_range};
 ghost use Rattle.affc_wellnamed.specs.Work as spec;
 
 use crate::known::number_count;
 use crate::shape::{larger, plus};
-use affc_ast::tree::{Decl, Op, Param, Program, Stmt, Val};
+use affc_ast::tree::{Cond, Decl, Op, Param, Program, Stmt, Val};
 
 #[tactic(auto, using(affc_ast::proofs::Outs::val_outs))]
 fn loads(v: &Val) -> u64
@@ -84,9 +85,11 @@ fn work_of(s: &Stmt) -> Work
 {
     match s {
         Stmt::For { body, .. } => looped(stmts_behind(no_work(), body.as_slice())),
-        Stmt::If { body, .. } | Stmt::Block { body, .. } => {
-            stmts_behind(no_work(), body.as_slice())
-        }
+        Stmt::If { body, other, .. } => both(
+            stmts_behind(no_work(), body.as_slice()),
+            stmts_behind(no_work(), other.as_slice()),
+        ),
+        Stmt::Block { body, .. } => stmts_behind(no_work(), body.as_slice()),
         Stmt::Assign { op, value, .. } => one_work(*op, loads(value)),
     }
 }
@@ -107,6 +110,65 @@ fn is_bounded(a: Work) -> bool
     ensures { result ≡ spec.is_bounded a }
 {
     a.statements <= 64 && a.loops <= 12 && !a.crowded
+}
+
+// ---- Remainders
+
+fn is_small(by: i64) -> bool
+    ensures { result ≡ spec.is_small by }
+{
+    by.unsigned_abs() <= 1 << 62
+}
+
+// Whether the number of each remainder is within the limit.
+#[cycle(conditions)]
+#[tactic(auto, using(affc_ast::proofs::Outs::cond_outs))]
+fn cond_fits(c: &Cond) -> bool
+    ensures { result ≡ spec.cond_fits c.now }
+{
+    match c {
+        Cond::Compare { .. } => true,
+        Cond::All(entries) | Cond::Any(entries) => conds_fit(entries.as_slice()),
+        Cond::Divides { by, .. } => is_small(*by),
+    }
+}
+
+#[cycle(conditions)]
+fn conds_fit(cs: &[Cond]) -> bool
+    ensures { result ≡ all_true (map spec.cond_fits cs.now) }
+{
+    for c in cs {
+        if !cond_fits(c) {
+            return false;
+        }
+    }
+    true
+}
+
+#[cycle(numbers)]
+#[tactic(auto, using(affc_ast::proofs::Outs::stmt_outs))]
+fn stmt_fits(s: &Stmt) -> bool
+    ensures { result ≡ spec.stmt_fits s.now }
+{
+    match s {
+        Stmt::For { body, .. } | Stmt::Block { body, .. } => stmts_fit(body.as_slice()),
+        Stmt::If { cond, body, other } => {
+            cond_fits(cond) && (stmts_fit(body.as_slice()) && stmts_fit(other.as_slice()))
+        }
+        Stmt::Assign { .. } => true,
+    }
+}
+
+#[cycle(numbers)]
+fn stmts_fit(body: &[Stmt]) -> bool
+    ensures { result ≡ all_true (map spec.stmt_fits body.now) }
+{
+    for s in body {
+        if !stmt_fits(s) {
+            return false;
+        }
+    }
+    true
 }
 
 // ---- Declarations and lines
@@ -162,5 +224,6 @@ pub fn program_fits(program: &Program) -> bool
     number_count(params) <= 4
         && program.context.len() <= 16
         && ((params_fit(params) && temps_fit(program.temps.as_slice()))
-            && is_bounded(stmts_behind(no_work(), program.body.as_slice())))
+            && (is_bounded(stmts_behind(no_work(), program.body.as_slice()))
+                && stmts_fit(program.body.as_slice())))
 }

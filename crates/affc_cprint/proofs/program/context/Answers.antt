@@ -7,4 +7,4 @@ use Rattle.affc_cprint.proofs.program.context.Goals as goal
 pub returns : goal.returns
 returns c =
     let some : 1 ≤ length c.args.context.now = search rules in
-    ends c.push-2.result _ _ _ (c.in_ok-push.ensures next c.in_ok-conds.ensures) c.push-2.ensures (context_pieces (seen c.args.names.now) c.args.context.now some)
+    ends c.push-2.result _ _ _ (c.in_ok-push.ensures next c.in_ok-tests.ensures) c.push-2.ensures (context_pieces (seen c.args.names.now) c.args.context.now some)

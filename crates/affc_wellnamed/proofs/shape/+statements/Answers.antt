@@ -8,8 +8,8 @@ stmt_shape-returns-in-For t c =
 
 pub stmt_shape-returns-in-If : goal.stmt_shape-returns-in-If
 stmt_shape-returns-in-If t c =
-    if_arm c.args.prelude c.args.s.now c.in-If.conds c.as_slice-in-If.result.now c.in-If.body c.as_slice-in-If-2.result.now c.if_head.result c.stmts_behind-in-If.result c.closed-in-If.result c.worded-in-If.result
-    c.in-If.is c.as_slice-in-If.ensures c.as_slice-in-If-2.ensures c.if_head.ensures c.stmts_behind-in-If.ensures c.closed-in-If.ensures c.worded-in-If.ensures
+    if_arm c.args.prelude c.args.s.now c.in-If.cond c.in-If.body c.as_slice-in-If.result.now c.in-If.other c.as_slice-in-If-2.result.now c.if_head.result c.stmts_behind-body.result c.branch_behind.result c.closed-in-If.result c.worded-in-If.result
+    c.in-If.is c.as_slice-in-If.ensures c.as_slice-in-If-2.ensures c.if_head.ensures c.stmts_behind-body.ensures c.branch_behind.ensures c.closed-in-If.ensures c.worded-in-If.ensures
 
 pub stmt_shape-returns-in-Block : goal.stmt_shape-returns-in-Block
 stmt_shape-returns-in-Block t c =
