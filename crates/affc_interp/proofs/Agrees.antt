@@ -7,12 +7,13 @@ use Rattle.affc_ast.specs.declared.tree.Stmt.{Stmt}
 use Rattle.affc_ast.specs.declared.tree.Stmt.TheVariants as s
 use Rattle.affc_ast.specs.declared.tree.Stmt.TheBlock.{Row_of-Stmt, more_of-Stmt, end_of-Stmt}
 use Rattle.affc_ast.specs.Cause.{Cause}
-use Rattle.affc_ast.specs.Index.{index_value, in_int64, nodes_of_ix, nodes_of_compare, conditions}
-use Rattle.affc_ast.specs.Meaning.{State, Outcome, Ended, Stuck, then_do, reading, begun, write, Position, Denotation, nodes_in, assigns_in, past, inside, in_order, with_iterator, turns_of, turns, assigned, with_locals, nodes_of_locals, stmt_step, denotation_of}
+use Rattle.affc_ast.specs.Conditions.{nodes_of_cond, condition}
+use Rattle.affc_ast.specs.Index.{index_value, in_int64, nodes_of_ix}
+use Rattle.affc_ast.specs.Meaning.{State, Outcome, Ended, Stuck, then_do, reading, begun, write, Position, Denotation, nodes_in, assigns_in, past, past_all, inside, in_order, with_iterator, turns_of, turns, assigned, with_locals, nodes_of_locals, stmt_step, denotation_of}
 use Rattle.affc_ast.specs.Recursion.{by_each}
 use Rattle.affc_ast.specs.Store.{Element, Store, with_value}
 use Rattle.affc_ast.specs.Values.{Scope}
-use Rattle.affc_interp.specs.Budget.{StuckBy, OutOfSteps, Run, after, stuck_or, step, Exec, beyond, all_of, turns_within, exec_step, exec_of}
+use Rattle.affc_interp.specs.Budget.{StuckBy, OutOfSteps, Run, after, stuck_or, step, Exec, beyond, beyond_all, all_of, turns_within, exec_step, exec_of}
 use Rattle.affc_interp.specs.Runs.{steps_of, within_limit}
 
 -- ---- Outcomes
@@ -116,13 +117,13 @@ turns_same limit node (suc count) x body within grows same s le =
 
 -- ---- Statements
 
-chosen_grows : (t : Bool) (state : State) (o : Outcome) → state.steps ≤ steps_of o → state.steps ≤ steps_of (if t then o else Ended state)
-chosen_grows true state o h = h
-chosen_grows false state o h = omega arith
+chosen_grows : (t : Bool) (state : State) (o u : Outcome) → state.steps ≤ steps_of o → state.steps ≤ steps_of u → state.steps ≤ steps_of (if t then o else u)
+chosen_grows true state o u h k = h
+chosen_grows false state o u h k = k
 
-chosen_same : (limit : ℕ) (t : Bool) (state : State) (o : Outcome) (r : Run) → state.steps ≤ limit → within_limit limit o ≡ r → within_limit limit (if t then o else Ended state) ≡ (if t then r else Ok (state.store, state.steps))
-chosen_same limit true state o r le same = same
-chosen_same limit false state o r le same = ap (λ (t : Bool). if t then Ok (state.store, state.steps) else Err OutOfSteps) (le-leb state.steps limit le)
+chosen_same : (limit : ℕ) (t : Bool) (o u : Outcome) (r q : Run) → within_limit limit o ≡ r → within_limit limit u ≡ q → within_limit limit (if t then o else u) ≡ (if t then r else q)
+chosen_same limit true o u r q same other = same
+chosen_same limit false o u r q same other = other
 
 assign_grows : (r : Result (Element × ℕ) Cause) (state : State) → state.steps ≤ steps_of (reading r (begun state) (λ stored. Ended (write stored.0 stored.1 (begun state))))
 assign_grows (Ok x) state = omega arith
@@ -159,16 +160,26 @@ mutual
             turns_same limit here.node (turns_of rel first last) first (λ x. in_order ps (inside here head) (with_iterator scope x)) (λ x. all_of limit qs (inside here head) (with_iterator scope x))
             (λ y s. all_grow ps qs h (inside here head) (with_iterator scope y) s) (λ y s l. all_same ps qs h limit (inside here head) (with_iterator scope y) s l) state le));
       }
-  agrees (s.If' conds shape body) =
+  agrees (s.If' cond shape body shape' other) =
       let ps : List Denotation = by_each stmt_step body in
       let qs : List Exec = by_each exec_step body in
+      let ps' : List Denotation = by_each stmt_step other in
+      let qs' : List Exec = by_each exec_step other in
       let h : AllAgree ps qs = agree_each body in
-      let head : ℕ = 1 + sum_by nodes_of_compare conds in
+      let h' : AllAgree ps' qs' = agree_each other in
+      let head : ℕ = 1 + nodes_of_cond cond in
       record {
-        nodes = ap (λ n. head + n) (all_nodes ps qs h);
-        assigns = all_assigns ps qs h;
-        grows = λ here scope state. read_grows (conditions conds (here.node + 1) scope.names) state _ (λ t. chosen_grows t state (in_order ps (inside here head) scope state) (all_grow ps qs h (inside here head) scope state));
-        same = λ limit here scope state le. read_same limit (conditions conds (here.node + 1) scope.names) state _ _ le (λ t. chosen_same limit t state (in_order ps (inside here head) scope state) _ le (all_same ps qs h limit (inside here head) scope state le));
+        nodes = λ i. head + all_nodes ps qs h i + all_nodes ps' qs' h' i;
+        assigns = λ i. all_assigns ps qs h i + all_assigns ps' qs' h' i;
+        grows = λ here scope state.
+            read_grows (condition cond (here.node + 1) scope.names) state _ (λ t.
+            chosen_grows t state (in_order ps (inside here head) scope state) (in_order ps' (past_all ps (inside here head)) scope state)
+            (all_grow ps qs h (inside here head) scope state) (all_grow ps' qs' h' (past_all ps (inside here head)) scope state));
+        same = λ limit here scope state le.
+            let behind : beyond_all qs (inside here head) ≡ past_all ps (inside here head) = λ i. record { node = here.node + head + all_nodes ps qs h i; statement = here.statement + all_assigns ps qs h i } in
+            read_same limit (condition cond (here.node + 1) scope.names) state _ _ le (λ t.
+            chosen_same limit t (in_order ps (inside here head) scope state) (in_order ps' (past_all ps (inside here head)) scope state) _ _ (all_same ps qs h limit (inside here head) scope state le)
+            (all_same ps' qs' h' limit (past_all ps (inside here head)) scope state le ∙ (λ i. all_of limit qs' (sym behind i) scope state.store state.steps)));
       }
   agrees (s.Assign op array subs value) = record {
     nodes = refl;

@@ -22,7 +22,8 @@ one_more n x xs a b e f = (λ i. e i && f i) ∙ sym (list_all-append (to_array 
 mutual
   stmt_within_is : (n : ℕ) (x : Stmt) → (exec_of x).within n ≡ list_all (to_array n) (by_stmt assignments_step x)
   stmt_within_is n (s.For' iter low rel high shape body) = row_within_is n body
-  stmt_within_is n (s.If' conds shape body) = row_within_is n body
+  stmt_within_is n (s.If' cond shape body shape' other) =
+      (λ i. row_within_is n body i && row_within_is n other i) ∙ sym (list_all-append (to_array n) (joined (by_each assignments_step body)) (joined (by_each assignments_step other)))
   stmt_within_is n (s.Assign op array subs value) = sym (and-true (nat_lt array.0 n))
   stmt_within_is n (s.Block' locals shape body) = row_within_is n body
 

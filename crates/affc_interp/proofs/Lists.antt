@@ -12,7 +12,10 @@ pub first_sum : {X : Type 0} (f : X → ℕ) (xs : List X) (x : X) → 1 ≤ len
 first_sum f xs x h e = ap (sum_by f) (first_and_rest xs x x h e refl) ∙ sum_by-cons f x (take (length xs - 1) (drop 1 xs))
 
 -- the item that a loop has come to, and those after it
-pub next_sum : {X : Type 0} (f : X → ℕ) (xs : List X) (i : ℕ) (x : X) → i < length xs → x ≡ get_or xs i x → sum_by f (drop i xs) ≡ f x + sum_by f (drop (i + 1) xs)
-next_sum f xs i x h e =
+pub drop_next : {X : Type 0} (xs : List X) (i : ℕ) (x : X) → i < length xs → x ≡ get_or xs i x → drop i xs ≡ x ∷ drop (i + 1) xs
+drop_next xs i x h e =
     let next : suc i ≡ i + 1 = omega arith in
-    ap (sum_by f) (drop-cons xs i x h ∙ (λ k. sym e k ∷ drop (suc i) xs)) ∙ sum_by-cons f x (drop (suc i) xs) ∙ ap (λ n. f x + sum_by f (drop n xs)) next
+    drop-cons xs i x h ∙ (λ k. sym e k ∷ drop (next k) xs)
+
+pub next_sum : {X : Type 0} (f : X → ℕ) (xs : List X) (i : ℕ) (x : X) → i < length xs → x ≡ get_or xs i x → sum_by f (drop i xs) ≡ f x + sum_by f (drop (i + 1) xs)
+next_sum f xs i x h e = ap (sum_by f) (drop_next xs i x h e) ∙ sum_by-cons f x (drop (i + 1) xs)

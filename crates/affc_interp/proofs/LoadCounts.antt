@@ -18,6 +18,6 @@ loads_fit (v.Shift' left s (more_of-Val a end_of-Val) by) = let h = loads_fit a 
 
 pub some_nodes : (x : Stmt) → 1 ≤ (exec_of x).nodes
 some_nodes (s.For' iter low rel high shape body) = omega arith
-some_nodes (s.If' conds shape body) = omega arith
+some_nodes (s.If' cond shape body shape' other) = omega arith
 some_nodes (s.Assign op array subs value) = omega arith
 some_nodes (s.Block' locals shape body) = omega arith

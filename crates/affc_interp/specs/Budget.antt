@@ -3,7 +3,7 @@
 -- It says what the meaning says, without the list of stores, and stops where the steps are used up.
 use Rattle.std.specs.Prelude.{ℕ, zero, suc, ◌+◌, ℤ, pos, ◌+ℤ◌, nat_lt, if◌then◌else◌, ◌&&◌, Bool, true, List, [], ◌∷◌, Option, Result, Ok, Err, sum_by}
 use Rattle.affc_ast.specs.declared.tree.ArrayId.{ArrayId}
-use Rattle.affc_ast.specs.declared.tree.Compare.{Compare}
+use Rattle.affc_ast.specs.declared.tree.Cond.{Cond}
 use Rattle.affc_ast.specs.declared.tree.Instance.{Instance}
 use Rattle.affc_ast.specs.declared.tree.Ix.{Ix}
 use Rattle.affc_ast.specs.declared.tree.Local.{Local}
@@ -13,7 +13,8 @@ use Rattle.affc_ast.specs.declared.tree.Stmt.{Stmt}
 use Rattle.affc_ast.specs.declared.tree.Stmt.TheOpen.{Stmt-F, For, If, Assign, Block}
 use Rattle.affc_ast.specs.declared.tree.Val.{Val}
 use Rattle.affc_ast.specs.Cause.{Cause}
-use Rattle.affc_ast.specs.Index.{nodes_of_ix, index_value, in_int64, nodes_of_compare, conditions}
+use Rattle.affc_ast.specs.Conditions.{nodes_of_cond, condition}
+use Rattle.affc_ast.specs.Index.{nodes_of_ix, index_value, in_int64}
 use Rattle.affc_ast.specs.Meaning.{Position, turns_of, assigned, nodes_of_locals, with_iterator, with_locals, inside}
 use Rattle.affc_ast.specs.Recursion.{by_stmt}
 use Rattle.affc_ast.specs.Store.{Store, with_value}
@@ -60,6 +61,9 @@ assigns_among ps = sum_by (λ p. p.assigns) ps
 abbrev pub beyond : Exec → Position → Position
 beyond p here = record { node = here.node + p.nodes; statement = here.statement + p.assigns }
 
+abbrev pub beyond_all : List Exec → Position → Position
+beyond_all ps here = record { node = here.node + nodes_among ps; statement = here.statement + assigns_among ps }
+
 abbrev pub all_of : (limit : ℕ) → List Exec → Position → Scope → Store → ℕ → Run
 all_of limit [] here scope store steps = Ok (store, steps)
 all_of limit (p ∷ ps) here scope store steps = after (p.run limit here scope store steps) (all_of limit ps (beyond p here) scope)
@@ -92,10 +96,11 @@ for_run low rel high body limit here scope store steps =
     stuck_or (index_value high (here.node + 1 + nodes_of_ix low) scope.names) (λ last.
     turns_within limit here.node (turns_of rel first last) first (λ x. all_of limit body (inside here (1 + nodes_of_ix low + nodes_of_ix high)) (with_iterator scope x)) store steps))
 
-abbrev pub if_run : List Compare → List Exec → (limit : ℕ) → Position → Scope → Store → ℕ → Run
-if_run conds body limit here scope store steps =
-    stuck_or (conditions conds (here.node + 1) scope.names) (λ holds.
-    if holds then all_of limit body (inside here (1 + sum_by nodes_of_compare conds)) scope store steps else Ok (store, steps))
+abbrev pub if_run : Cond → (body other : List Exec) → (limit : ℕ) → Position → Scope → Store → ℕ → Run
+if_run cond body other limit here scope store steps =
+    let inner = inside here (1 + nodes_of_cond cond) in
+    stuck_or (condition cond (here.node + 1) scope.names) (λ holds.
+    if holds then all_of limit body inner scope store steps else all_of limit other (beyond_all body inner) scope store steps)
 
 abbrev pub block_run : List Local → List Exec → (limit : ℕ) → Position → Scope → Store → ℕ → Run
 block_run locals body limit here scope store steps =
@@ -109,11 +114,11 @@ exec_step (For iter low rel high body) = record {
   within = all_within body;
   run = for_run low rel high body;
 }
-exec_step (If conds body) = record {
-  nodes = 1 + sum_by nodes_of_compare conds + nodes_among body;
-  assigns = assigns_among body;
-  within = all_within body;
-  run = if_run conds body;
+exec_step (If cond body other) = record {
+  nodes = 1 + nodes_of_cond cond + nodes_among body + nodes_among other;
+  assigns = assigns_among body + assigns_among other;
+  within = λ n. all_within body n && all_within other n;
+  run = if_run cond body other;
 }
 exec_step (Assign op array subs e) = record {
   nodes = 1 + sum_by nodes_of_ix subs + (value_of e).nodes;

@@ -175,6 +175,7 @@ fn compare(rel: Rel, apart: i128) -> bool
         Rel::Greater => apart > 0,
         Rel::GreaterEqual => apart >= 0,
         Rel::Equal => apart == 0,
+        Rel::NotEqual => apart != 0,
     }
 }
 

@@ -1,6 +1,8 @@
 //! Whole-number expressions in 64 bits: how many nodes they have, and what they give.
-ghost use Rattle.std.specs.Prelude.{◌≡◌, ◌∷◌, [], ◌≤ℤ◌, ◌+◌, ◌^◌, ◌<◌, ◌≤◌, ◌+ℤ◌, ◌-ℤ◌, ◌*ℤ◌, neg_ℤ, pos, get_or, sum_by, ℕ, Ok, MatchOption, suc};
-ghost use Rattle.affc_ast.specs.Index.{nodes_of_ix, index_value, in_int64, divided, floor_of, ceiling_of, remainder_of, compares, nodes_of_compare, conditions};
+ghost use Rattle.std.specs.Prelude.{◌≡◌, ◌≤ℤ◌, ◌+◌, ◌^◌, ◌<◌, ◌≤◌, ◌+ℤ◌, ◌-ℤ◌, ◌*ℤ◌, neg_ℤ, pos, get_or, sum_by, ℕ, Ok, MatchOption, suc, map};
+ghost use Rattle.affc_ast.specs.Conditions.{divides, reading_step, reading_of, nodes_of_cond, nodes_of_entries, all_read, some_read, condition};
+ghost use Rattle.affc_ast.specs.Index.{nodes_of_ix, index_value, in_int64, divided, floor_of, ceiling_of, remainder_of, compares, nodes_of_compare};
+ghost use Rattle.affc_ast.specs.declared.tree.Cond.TheOpen as cond;
 ghost use Rattle.affc_interp.specs.Seen.{as_reading};
 ghost use Rattle.affc_interp.specs.Operands as row;
 ghost use Rattle.affc_interp.specs.Steps as steps;
@@ -8,7 +10,7 @@ ghost use Rattle.affc_interp.specs.Steps.{right_nodes};
 ghost use Rattle.affc_interp.specs.Operands.{operators};
 
 use crate::step::{Join, Step, last_step};
-use affc_ast::tree::{Compare, Ix, Rel};
+use affc_ast::tree::{Compare, Cond, Ix, Rel};
 
 /// How many nodes the expression has. The recursion is into second operands alone.
 #[cycle(node_count)]
@@ -263,20 +265,118 @@ fn compare(rel: Rel, x: i64, y: i64) -> bool
         Rel::Greater => y < x,
         Rel::GreaterEqual => y <= x,
         Rel::Equal => x == y,
+        Rel::NotEqual => x != y,
     }
 }
 
-/// Whether the condition holds.
-fn holds(c: &Compare, node: u32, names: &[i64]) -> Result<bool, u32>
-    requires { node + nodes_of_compare c.now < 2 ^ 32 }
-    ensures { as_reading result ≡ conditions (c.now ∷ []) node names.now }
+/// Whether a comparison is true, whose own node has this number.
+fn compared(rel: Rel, left: &Ix, right: &Ix, node: u32, names: &[i64]) -> Result<bool, u32>
+    requires { node + (1 + nodes_of_ix left.now + nodes_of_ix right.now) < 2 ^ 32 }
+    ensures { as_reading result ≡ (reading_step (cond.Compare rel left.now right.now)).value node names.now }
 {
-    let x = eval(&c.left, node + 1, names)?;
-    let y = eval(&c.right, node + 1 + node_count(&c.left), names)?;
-    Ok(compare(c.rel, x, y))
+    let x = eval(left, node + 1, names)?;
+    let y = second(left, right, node, names)?;
+    Ok(compare(rel, x, y))
+}
+
+/// Whether the number divides x. By 0 and by -1, where there is no remainder in 64 bits, the definition is followed.
+fn divides(by: i64, x: i64) -> bool
+    ensures { result ≡ divides by x }
+{
+    if by == 0 {
+        x <= 0
+    } else if by == -1 {
+        true
+    } else {
+        x.rem_euclid(by) == 0
+    }
+}
+
+/// Whether a test of a remainder is true, whose own node has this number.
+fn divided(value: &Ix, by: i64, yes: bool, node: u32, names: &[i64]) -> Result<bool, u32>
+    requires { node + (1 + nodes_of_ix value.now) < 2 ^ 32 }
+    ensures { as_reading result ≡ (reading_step (cond.Divides value.now by yes)).value node names.now }
+{
+    let x = eval(value, node + 1, names)?;
+    Ok(divides(by, x) == yes)
+}
+
+/// Whether the condition is true, whose own node has this number, or the node that overflows. It is read from the left, and
+/// no further than needed.
+#[tactic(auto, using(affc_ast::proofs::Outs::cond_outs))]
+#[cycle(is_true)]
+pub fn is_true(c: &Cond, node: u32, names: &[i64]) -> Result<bool, u32>
+    requires { node + nodes_of_cond c.now < 2 ^ 32 }
+    ensures { as_reading result ≡ condition c.now node names.now }
+{
+    match c {
+        Cond::Compare { rel, left, right } => compared(*rel, left, right, node, names),
+        Cond::All(entries) => all_true(entries.as_slice(), node + 1, names),
+        Cond::Any(entries) => some_true(entries.as_slice(), node + 1, names),
+        Cond::Divides { value, by, yes } => divided(value, *by, *yes, node, names),
+    }
+}
+
+/// Whether all are true, up to the first that is false.
+#[cycle(is_true)]
+fn all_true(entries: &[Cond], node: u32, names: &[i64]) -> Result<bool, u32>
+    requires { node + nodes_of_entries (map reading_of entries.now) < 2 ^ 32 }
+    ensures { as_reading result ≡ all_read (map reading_of entries.now) node names.now }
+{
+    let mut here = node;
+    for entry in entries {
+        if !is_true(entry, here, names)? {
+            return Ok(false);
+        }
+        here += cond_nodes(entry);
+    }
+    Ok(true)
+}
+
+/// Whether some is true, up to the first that is.
+#[cycle(is_true)]
+fn some_true(entries: &[Cond], node: u32, names: &[i64]) -> Result<bool, u32>
+    requires { node + nodes_of_entries (map reading_of entries.now) < 2 ^ 32 }
+    ensures { as_reading result ≡ some_read (map reading_of entries.now) node names.now }
+{
+    let mut here = node;
+    for entry in entries {
+        if is_true(entry, here, names)? {
+            return Ok(true);
+        }
+        here += cond_nodes(entry);
+    }
+    Ok(false)
 }
 
 /// How many nodes the condition has.
+#[tactic(auto, using(affc_ast::proofs::Outs::cond_outs))]
+pub fn cond_nodes(c: &Cond) -> u32
+    requires { nodes_of_cond c.now < 2 ^ 32 }
+    ensures { result ≡ nodes_of_cond c.now }
+{
+    let entries = match c {
+        Cond::Compare {
+            rel: _,
+            left,
+            right,
+        } => return 1 + node_count(left) + node_count(right),
+        Cond::Divides {
+            value,
+            by: _,
+            yes: _,
+        } => return 1 + node_count(value),
+        Cond::All(entries) => entries,
+        Cond::Any(entries) => entries,
+    };
+    let mut count = 1;
+    for entry in entries.as_slice() {
+        count += cond_nodes(entry);
+    }
+    count
+}
+
+/// How many nodes the comparison has.
 fn compare_nodes(c: &Compare) -> u32
     requires { nodes_of_compare c.now < 2 ^ 32 }
     ensures { result ≡ nodes_of_compare c.now }
@@ -284,24 +384,7 @@ fn compare_nodes(c: &Compare) -> u32
     1 + node_count(&c.left) + node_count(&c.right)
 }
 
-/// Whether all conditions hold, read from the left up to the first that is false.
-pub fn all_hold(conds: &[Compare], node: u32, names: &[i64]) -> Result<bool, u32>
-    requires { node + sum_by nodes_of_compare conds.now < 2 ^ 32 }
-    ensures { as_reading result ≡ conditions conds.now node names.now }
-{
-    match conds {
-        [] => Ok(true),
-        [c, rest @ ..] => {
-            if holds(c, node, names)? {
-                all_hold(rest, node + compare_nodes(c), names)
-            } else {
-                Ok(false)
-            }
-        }
-    }
-}
-
-/// How many nodes the conditions have.
+/// How many nodes the comparisons have.
 pub fn compare_sum(conds: &[Compare]) -> u32
     requires { sum_by nodes_of_compare conds.now < 2 ^ 32 }
     ensures { result ≡ sum_by nodes_of_compare conds.now }

@@ -1,6 +1,7 @@
 //! A run: its statements, loops and steps.
 ghost use Rattle.std.specs.Prelude.{◌≡◌, ◌+◌, ◌^◌, ◌<◌, ◌+ℤ◌, ◌-ℤ◌, ℤ, List, Some, sum_by, length, pos, IsTrue, true, map, OnOk};
-ghost use Rattle.affc_ast.specs.Index.{nodes_of_ix, nodes_of_compare, in_int64, is_int64};
+ghost use Rattle.affc_ast.specs.Conditions.{nodes_of_cond};
+ghost use Rattle.affc_ast.specs.Index.{nodes_of_ix, in_int64, is_int64};
 ghost use Rattle.affc_ast.specs.Meaning.{turns_of, assigned, combined, own_loads, own_value, nodes_of_locals, with_locals, with_iterator};
 ghost use Rattle.affc_ast.specs.Meaning as meaning;
 ghost use Rattle.affc_ast.specs.Values.{value_of};
@@ -11,10 +12,10 @@ ghost use Rattle.affc_interp.specs.Seen.{as_reading, scope_at, as_value, Stores}
 ghost use Rattle.affc_interp.specs.Machines.{Finishes, Steps, Declares, scope_of, position, turn_of};
 
 use crate::fault::{Fault, Halt};
-use crate::index::{all_hold, compare_sum, eval, node_count, node_sum};
+use crate::index::{cond_nodes, eval, is_true, node_count, node_sum};
 use crate::memory::Memory;
 use crate::value::{load_count, operated, value, value_nodes};
-use affc_ast::tree::{ArrayId, Compare, Instance, Ix, Local, Op, Rel, Stmt, Val};
+use affc_ast::tree::{ArrayId, Cond, Instance, Ix, Local, Op, Rel, Stmt, Val};
 
 /// A run: the values of the visible names, the assignment that was begun last, the arrays, and how many
 /// steps were begun of those that may be.
@@ -149,6 +150,7 @@ fn turn_count(rel: Rel, first: i64, last: i64) -> u128
         Rel::Greater => 0,
         Rel::GreaterEqual => 0,
         Rel::Equal => 0,
+        Rel::NotEqual => 0,
     }
 }
 
@@ -174,20 +176,31 @@ fn at_least_zero(x: i128) -> u128
 }
 
 /// How many assignments the statement has.
-#[tactic(auto, using(affc_ast::proofs::Outs::stmt_outs))]
+#[tactic(auto, using(crate::proofs::Execs::exec_steps))]
+#[cycle(assigns_of_all)]
 fn assign_count(s: &Stmt) -> u32
     requires { (exec_of s.now).assigns < 2 ^ 32 }
     ensures { result ≡ (exec_of s.now).assigns }
 {
-    let body = match s {
-        Stmt::Assign { .. } => return 1,
-        Stmt::For { body, .. } => body,
-        Stmt::If { body, .. } => body,
-        Stmt::Block { body, .. } => body,
-    };
+    match s {
+        Stmt::Assign { .. } => 1,
+        Stmt::For { body, .. } => assigns_of_all(body.as_slice()),
+        Stmt::If { body, other, .. } => {
+            assigns_of_all(body.as_slice()) + assigns_of_all(other.as_slice())
+        }
+        Stmt::Block { body, .. } => assigns_of_all(body.as_slice()),
+    }
+}
+
+#[tactic(auto, using(crate::proofs::Execs::exec_steps))]
+#[cycle(assigns_of_all)]
+fn assigns_of_all(body: &[Stmt]) -> u32
+    requires { assigns_among (map exec_of body.now) < 2 ^ 32 }
+    ensures { result ≡ assigns_among (map exec_of body.now) }
+{
     let mut count = 0;
-    for inner in body.as_slice() {
-        count += assign_count(inner);
+    for s in body {
+        count += assign_count(s);
     }
     count
 }
@@ -204,35 +217,37 @@ fn local_sum(locals: &[Local]) -> u32
 }
 
 /// How many nodes the statement has.
-#[tactic(auto, using(affc_ast::proofs::Outs::stmt_outs))]
+#[tactic(auto, using(crate::proofs::Execs::exec_steps))]
+#[cycle(nodes_of_all)]
 fn statement_nodes(s: &Stmt) -> u32
     requires { (exec_of s.now).nodes < 2 ^ 32 }
     ensures { result ≡ (exec_of s.now).nodes }
 {
-    let (head, body) = match s {
+    match s {
         Stmt::Assign {
             op: _,
             array: _,
             subs,
             value,
-        } => return 1 + node_sum(subs.as_slice()) + value_nodes(value),
+        } => 1 + node_sum(subs.as_slice()) + value_nodes(value),
         Stmt::For {
             iter: _,
             low,
             rel: _,
             high,
             body,
-        } => (1 + node_count(low) + node_count(high), body),
-        Stmt::If { conds, body } => (1 + compare_sum(conds.as_slice()), body),
-        Stmt::Block { locals, body } => (1 + local_sum(locals.as_slice()), body),
-    };
-    let mut count = head;
-    for inner in body.as_slice() {
-        count += statement_nodes(inner);
+        } => 1 + node_count(low) + node_count(high) + nodes_of_all(body.as_slice()),
+        Stmt::If { cond, body, other } => {
+            1 + cond_nodes(cond) + nodes_of_all(body.as_slice()) + nodes_of_all(other.as_slice())
+        }
+        Stmt::Block { locals, body } => {
+            1 + local_sum(locals.as_slice()) + nodes_of_all(body.as_slice())
+        }
     }
-    count
 }
 
+#[tactic(auto, using(crate::proofs::Execs::exec_steps))]
+#[cycle(nodes_of_all)]
 fn nodes_of_all(body: &[Stmt]) -> u32
     requires { nodes_among (map exec_of body.now) < 2 ^ 32 }
     ensures { result ≡ nodes_among (map exec_of body.now) }
@@ -240,17 +255,6 @@ fn nodes_of_all(body: &[Stmt]) -> u32
     let mut count = 0;
     for s in body {
         count += statement_nodes(s);
-    }
-    count
-}
-
-fn assigns_of_all(body: &[Stmt]) -> u32
-    requires { assigns_among (map exec_of body.now) < 2 ^ 32 }
-    ensures { result ≡ assigns_among (map exec_of body.now) }
-{
-    let mut count = 0;
-    for s in body {
-        count += assign_count(s);
     }
     count
 }
@@ -287,9 +291,10 @@ impl Machine {
                 high,
                 body,
             } => self.exec_for(low, *rel, high, body.as_slice(), node, statement),
-            Stmt::If { conds, body } => self.exec_if(
-                conds.as_slice(),
+            Stmt::If { cond, body, other } => self.exec_if(
+                cond,
                 body.as_slice(),
+                other.as_slice(),
                 node,
                 statement,
             ),
@@ -340,22 +345,26 @@ impl Machine {
     #[cycle(exec)]
     fn exec_if(
         &mut self,
-        conds: &[Compare],
+        cond: &Cond,
         body: &[Stmt],
+        other: &[Stmt],
         node: u32,
         statement: u32,
     ) -> Result<(), Halt>
-        requires nodes { node + (1 + sum_by nodes_of_compare conds.now + nodes_among (map exec_of body.now)) < 2 ^ 32 }
-        requires assigns { statement + assigns_among (map exec_of body.now) < 2 ^ 32 }
+        requires nodes { node + (1 + nodes_of_cond cond.now + nodes_among (map exec_of body.now) + nodes_among (map exec_of other.now)) < 2 ^ 32 }
+        requires assigns { statement + (assigns_among (map exec_of body.now) + assigns_among (map exec_of other.now)) < 2 ^ 32 }
         requires within { all_within (map exec_of body.now) (length self.old.memory.extents) ≡ true }
-        ensures { Finishes result self.old self.new (if_run conds.now (map exec_of body.now) self.old.limit (position node statement) (scope_of self.old) self.old.memory.store self.old.steps) }
+        requires other_within { all_within (map exec_of other.now) (length self.old.memory.extents) ≡ true }
+        ensures { Finishes result self.old self.new (if_run cond.now (map exec_of body.now) (map exec_of other.now) self.old.limit (position node statement) (scope_of self.old) self.old.memory.store self.old.steps) }
     {
-        let holds = all_hold(conds, node + 1, self.names.as_slice())?;
-        if holds {
-            self.exec_all(body, node + (1 + compare_sum(conds)), statement)
-        } else {
-            Ok(())
+        if is_true(cond, node + 1, self.names.as_slice())? {
+            return self.exec_all(body, node + (1 + cond_nodes(cond)), statement);
         }
+        if other.is_empty() {
+            return Ok(());
+        }
+        let behind = node + (1 + cond_nodes(cond)) + nodes_of_all(body);
+        self.exec_all(other, behind, statement + assigns_of_all(body))
     }
 
     #[cycle(exec)]

@@ -1,4 +1,4 @@
-use Rattle.std.proofs.Common.{◌+◌, ◌-◌, ◌∷◌, length, take, drop, refl, sym, ap, ◌∙◌, Ok, arith, rules, to_z-of_z, FitsSigned, w64}
+use Rattle.std.proofs.Common.{◌+◌, ◌-◌, length, take, drop, refl, sym, ap, ◌∙◌, Ok, arith, rules, to_z-of_z, FitsSigned, w64}
 use Rattle.affc_ast.specs.Index.{nodes_of_ix, index_values}
 use Rattle.affc_interp.specs.Layout.{place_from}
 use Rattle.affc_interp.specs.Seen.{read_then}

@@ -1,7 +1,8 @@
-use Rattle.std.proofs.Common.{rules, subst, ℤ, ◌≡◌, ◌+◌, ◌^◌, ◌<◌, ◌+ℤ◌, pos, ◌∙◌, ap, sym, map, length, arith, to_z, of_z, to_z-of_z, FitsSigned, w64}
+use Rattle.std.proofs.Common.{rules, subst, ℤ, ◌≡◌, ◌+◌, ◌^◌, ◌<◌, ◌+ℤ◌, pos, ◌∙◌, ap, refl, sym, map, length, arith, to_z, of_z, to_z-of_z, FitsSigned, w64}
+use Rattle.std.proofs.lemmas.Bool.{and_parts}
 use Rattle.std.proofs.lemmas.Result.{err_from_is_err_and}
-use Rattle.std.specs.Prelude.{sum_by}
-use Rattle.affc_ast.specs.Index.{nodes_of_ix, nodes_of_compare}
+use Rattle.affc_ast.specs.Conditions.{nodes_of_cond}
+use Rattle.affc_ast.specs.Index.{nodes_of_ix}
 use Rattle.affc_ast.specs.Meaning.{nodes_of_locals}
 use Rattle.affc_interp.specs.Budget.{Exec, after, exec_of, all_of, all_within, nodes_among, assigns_among, turns_within}
 use Rattle.affc_interp.specs.Machines.{Finishes, Halts, turn_of, scope_of, position}
@@ -101,14 +102,18 @@ exec-returns-in-For t c =
 
 pub exec-exec_if-requires : goal.exec-exec_if-requires
 exec-exec_if-requires t c =
-    let e = if_is c.args.s.now c.in-If.conds c.as_slice-in-If.result.now c.in-If.body c.as_slice-in-If-2.result.now c.in-If.is c.as_slice-in-If.ensures c.as_slice-in-If-2.ensures in
-    let n : (exec_of c.args.s.now).nodes ≡ 1 + sum_by nodes_of_compare c.as_slice-in-If.result.now + nodes_among (map exec_of c.as_slice-in-If-2.result.now) = ap (λ x. x.nodes) e in
-    let a : (exec_of c.args.s.now).assigns ≡ assigns_among (map exec_of c.as_slice-in-If-2.result.now) = ap (λ x. x.assigns) e in
-    (omega (arith, n), (subst (λ k. c.args.node + k < 2 ^ 32) n c.requires.nodes, (subst (λ k. c.args.statement + k < 2 ^ 32) a c.requires.assigns, ap (λ x. x.within (length c.args.self.now.memory.extents)) (sym e) ∙ c.requires.within)))
+    let e = if_is c.args.s.now c.in-If.cond c.in-If.cond c.in-If.body c.as_slice-in-If.result.now c.in-If.other c.as_slice-in-If-2.result.now c.in-If.is refl c.as_slice-in-If.ensures c.as_slice-in-If-2.ensures in
+    let body = map exec_of c.as_slice-in-If.result.now in
+    let other = map exec_of c.as_slice-in-If-2.result.now in
+    let arrays = length c.args.self.now.memory.extents in
+    let n : (exec_of c.args.s.now).nodes ≡ 1 + nodes_of_cond c.in-If.cond + nodes_among body + nodes_among other = ap (λ x. x.nodes) e in
+    let a : (exec_of c.args.s.now).assigns ≡ assigns_among body + assigns_among other = ap (λ x. x.assigns) e in
+    let w = and_parts (all_within body arrays) (all_within other arrays) (ap (λ x. x.within arrays) (sym e) ∙ c.requires.within) in
+    (omega (arith, n), (subst (λ k. c.args.node + k < 2 ^ 32) n c.requires.nodes, (subst (λ k. c.args.statement + k < 2 ^ 32) a c.requires.assigns, (w.0, w.1))))
 
 pub exec-returns-in-If : goal.exec-returns-in-If
 exec-returns-in-If t c =
-    let e = if_is c.args.s.now c.in-If.conds c.as_slice-in-If.result.now c.in-If.body c.as_slice-in-If-2.result.now c.in-If.is c.as_slice-in-If.ensures c.as_slice-in-If-2.ensures in
+    let e = if_is c.args.s.now c.in-If.cond c.in-If.cond c.in-If.body c.as_slice-in-If.result.now c.in-If.other c.as_slice-in-If-2.result.now c.in-If.is refl c.as_slice-in-If.ensures c.as_slice-in-If-2.ensures in
     subst (λ (x : Exec). Finishes c.exec_if.result c.args.self.now c.exec_if.new.self (x.run c.args.self.now.limit (position c.args.node c.args.statement) (scope_of c.args.self.now) c.args.self.now.memory.store c.args.self.now.steps)) (sym e) c.exec_if.ensures
 
 pub exec-exec_block-requires : goal.exec-exec_block-requires

@@ -13,7 +13,7 @@ abbrev pub decreases-exec_for : goal.decreases-exec_for
 decreases-exec_for l = 8 * nodes_among (map exec_of l.body.now) + 6
 
 abbrev pub decreases-exec_if : goal.decreases-exec_if
-decreases-exec_if l = 8 * nodes_among (map exec_of l.body.now) + 6
+decreases-exec_if l = 8 * (nodes_among (map exec_of l.body.now) + nodes_among (map exec_of l.other.now)) + 6
 
 abbrev pub decreases-exec_block : goal.decreases-exec_block
 decreases-exec_block l = 8 * nodes_among (map exec_of l.body.now) + 6
