@@ -1,5 +1,5 @@
 -- Going down through the statements finds how many loops two assignments share.
-use Rattle.std.proofs.Common.{◌≡◌, ℕ, zero, suc, ◌+◌, ◌-◌, ◌<◌, ◌≤◌, Bool, true, false, if◌then◌else◌, List, [], ◌∷◌, length, map, Some, refl, sym, ap, ◌∙◌, inl, inr, arith}
+use Rattle.std.proofs.Common.{◌≡◌, ℕ, zero, suc, ◌+◌, ◌-◌, ◌<◌, ◌≤◌, ◌^◌, Bool, true, false, if◌then◌else◌, List, [], ◌∷◌, ◌++◌, length, map, Some, refl, sym, ap, ◌∙◌, inl, inr, arith}
 use Rattle.std.specs.Prelude.{slice_get, nat_eq, nat_lt}
 use Rattle.std.proofs.lemmas.Bool.Decides.{nat_tests}
 use Rattle.std.proofs.lemmas.List.Sums.{sum_by-cons}
@@ -16,14 +16,19 @@ use Rattle.affc_domain.specs.Loops.{all_loops, in_text_order, numbered_step, loo
 use Rattle.affc_domain.proofs.Lists.{from_append, from_map, length_map}
 use Rattle.affc_domain.proofs.CountLemmas.{numbers_of_each}
 use Rattle.affc_domain.proofs.StartLemmas.{shared_none, shared_same, starts, row_starts}
-use Rattle.affc_compare.specs.Sharing.{Sharing, assigns_among, loops_among, sharing_step, sharing, common_loops}
+use Rattle.affc_compare.specs.Sharing.{Sharing, assigns_among, in_parts, loops_among, sharing_step, sharing, common_loops}
+use Rattle.affc_compare.proofs.NodeLemmas.{HasBranches}
 
 -- ---- Assignments counted
 
 mutual
   counts : (x : Stmt) (first : ℕ) → length ((by_stmt numbered_step x).numbers first) ≡ (by_stmt sharing_step x).assigns
   counts (s.For' iter low rel high shape body) first = length_map (λ ls. first ∷ ls) (in_text_order (by_each numbered_step body) (suc first)) ∙ row_counts body (suc first)
-  counts (s.If' conds shape body) first = row_counts body first
+  counts (s.If' cond shape body shape' other) first =
+      let next = first + all_loops (by_each numbered_step body) in
+      length_append (in_text_order (by_each numbered_step body) first) (in_text_order (by_each numbered_step other) next)
+      ∙ ap (λ u. u + length (in_text_order (by_each numbered_step other) next)) (row_counts body first)
+      ∙ ap (λ u. assigns_among (by_each sharing_step body) + u) (row_counts other next)
   counts (s.Assign op array subs value) first = refl
   counts (s.Block' locals shape body) first = row_counts body first
 
@@ -44,32 +49,82 @@ below m n h = grind (arith, nat_tests)
 behind : (m n : ℕ) → n ≤ m → nat_lt m n ≡ false
 behind m n h = grind (arith, nat_tests)
 
-module _ (t : Sharing) (ts : List Sharing) (a b : ℕ) where
+module _ (count : ℕ) (f g : ℕ → ℕ → ℕ) (a b : ℕ) where
   abbrev chosen : Bool → Bool → ℕ
-  chosen u v = if u then (if v then t.loops a b else 0) else (if v then 0 else loops_among ts (a - t.assigns) (b - t.assigns))
+  chosen u v = if u then (if v then f a b else 0) else (if v then 0 else g (a - count) (b - count))
 
-  both_here : a < t.assigns → b < t.assigns → loops_among (t ∷ ts) a b ≡ t.loops a b
-  both_here h g = ap (λ u. chosen u (nat_lt b t.assigns)) (below a t.assigns h) ∙ ap (chosen true) (below b t.assigns g)
+  pub both_here : a < count → b < count → in_parts count f g a b ≡ f a b
+  both_here h k = ap (λ u. chosen u (nat_lt b count)) (below a count h) ∙ ap (chosen true) (below b count k)
 
-  first_here : a < t.assigns → t.assigns ≤ b → loops_among (t ∷ ts) a b ≡ 0
-  first_here h g = ap (λ u. chosen u (nat_lt b t.assigns)) (below a t.assigns h) ∙ ap (chosen true) (behind b t.assigns g)
+  pub first_here : a < count → count ≤ b → in_parts count f g a b ≡ 0
+  first_here h k = ap (λ u. chosen u (nat_lt b count)) (below a count h) ∙ ap (chosen true) (behind b count k)
 
-  second_here : t.assigns ≤ a → b < t.assigns → loops_among (t ∷ ts) a b ≡ 0
-  second_here h g = ap (λ u. chosen u (nat_lt b t.assigns)) (behind a t.assigns h) ∙ ap (chosen false) (below b t.assigns g)
+  pub second_here : count ≤ a → b < count → in_parts count f g a b ≡ 0
+  second_here h k = ap (λ u. chosen u (nat_lt b count)) (behind a count h) ∙ ap (chosen false) (below b count k)
 
-  both_behind : (m n : ℕ) → a ≡ t.assigns + m → b ≡ t.assigns + n → loops_among (t ∷ ts) a b ≡ loops_among ts m n
-  both_behind m n h g =
-      ap (λ u. chosen u (nat_lt b t.assigns)) (behind a t.assigns (omega arith)) ∙ ap (chosen false) (behind b t.assigns (omega arith))
-      ∙ ap (λ k. loops_among ts k (b - t.assigns)) (left a t.assigns m h) ∙ ap (loops_among ts m) (left b t.assigns n g)
+  pub none_here : count ≤ a → count ≤ b → in_parts count f g a b ≡ g (a - count) (b - count)
+  none_here h k = ap (λ u. chosen u (nat_lt b count)) (behind a count h) ∙ ap (chosen false) (behind b count k)
+
+  both_behind : (m n : ℕ) → a ≡ count + m → b ≡ count + n → in_parts count f g a b ≡ g m n
+  both_behind m n h k = none_here (omega arith) (omega arith) ∙ ap (λ l. g l (b - count)) (left a count m h) ∙ ap (g m) (left b count n k)
     where
       left : (x k m : ℕ) → x ≡ k + m → x - k ≡ m
       left x k m e = omega arith
+
+-- ---- The branches of an `if`
+
+module _ (s : Stmt) (body other : List Stmt) (a b count : ℕ) (is : HasBranches s body other) (n : count ≡ assigns_among (map sharing body)) where
+  counted : (sharing s).loops a b ≡ in_parts count (loops_among (map sharing body)) (loops_among (map sharing other)) a b
+  counted = is.loops a b ∙ ap (λ k. in_parts k (loops_among (map sharing body)) (loops_among (map sharing other)) a b) (sym n)
+
+  pub in_body : a < count → b < count → (sharing s).loops a b ≡ loops_among (map sharing body) a b
+  in_body h k = counted ∙ both_here count (loops_among (map sharing body)) (loops_among (map sharing other)) a b h k
+
+  pub first_in_body : a < count → count ≤ b → (sharing s).loops a b ≡ 0
+  first_in_body h k = counted ∙ first_here count (loops_among (map sharing body)) (loops_among (map sharing other)) a b h k
+
+  pub second_in_body : count ≤ a → b < count → (sharing s).loops a b ≡ 0
+  second_in_body h k = counted ∙ second_here count (loops_among (map sharing body)) (loops_among (map sharing other)) a b h k
+
+  pub in_other : count ≤ a → count ≤ b → (sharing s).loops a b ≡ loops_among (map sharing other) (a - count) (b - count)
+  in_other h k = counted ∙ none_here count (loops_among (map sharing body)) (loops_among (map sharing other)) a b h k
+
+  pub few_of_body : (sharing s).assigns < 2 ^ 32 → assigns_among (map sharing body) < 2 ^ 32
+  few_of_body h = let e = is.assigns in omega (arith, e, h)
+
+  pub few_of_other : (sharing s).assigns < 2 ^ 32 → assigns_among (map sharing other) < 2 ^ 32
+  few_of_other h = let e = is.assigns in omega (arith, e, h)
 
 -- ---- Shared loops
 
 alone : (i : ℕ) (ls : List ℕ) → slice_get ([] ∷ []) i ≡ Some ls → ls ≡ []
 alone zero ls e = sym (same_Some [] ls e)
 alone (suc i) ls e = absurd (none-some ls e)
+
+-- in two parts, none of whose loops is shared
+parts_share : (count : ℕ) (f g : ℕ → ℕ → ℕ) (us vs : List (List ℕ)) → length us ≡ count
+    → ((i j : ℕ) (ls ms : List ℕ) → slice_get us i ≡ Some ls → slice_get us j ≡ Some ms → f i j ≡ shared ls ms)
+    → ((i j : ℕ) (ls ms : List ℕ) → slice_get vs i ≡ Some ls → slice_get vs j ≡ Some ms → g i j ≡ shared ls ms)
+    → ((i j : ℕ) (ls ms : List ℕ) → slice_get us i ≡ Some ls → slice_get vs j ≡ Some ms → (shared ls ms ≡ 0) × (shared ms ls ≡ 0))
+    → (a b : ℕ) (ls ms : List ℕ) → slice_get (us ++ vs) a ≡ Some ls → slice_get (us ++ vs) b ≡ Some ms → in_parts count f g a b ≡ shared ls ms
+parts_share count f g us vs c first second none a b ls ms e h = elim (from_append us vs a ls e) [
+  | inl i ↦
+      let here : a < count = within us a ls count c i in
+      elim (from_append us vs b ms h) [
+        | inl j ↦ both_here count f g a b here (within us b ms count c j) ∙ first a b ls ms i j
+        | inr r ↦ first_here count f g a b here (beyond b r.0 (length us) count c r.1) ∙ sym (none a r.0 ls ms i r.2).0
+      ]
+  | inr q ↦ elim (from_append us vs b ms h) [
+    | inl j ↦ second_here count f g a b (beyond a q.0 (length us) count c q.1) (within us b ms count c j) ∙ sym (none b q.0 ms ls j q.2).1
+    | inr r ↦ both_behind count f g a b q.0 r.0 (q.1 ∙ ap (λ k. k + q.0) c) (r.1 ∙ ap (λ k. k + r.0) c) ∙ second q.0 r.0 ls ms q.2 r.2
+  ]
+]
+  where
+    within : (xs : List (List ℕ)) (i : ℕ) (ls : List ℕ) (k : ℕ) → length xs ≡ k → slice_get xs i ≡ Some ls → i < k
+    within xs i ls k e h = let g = slice_get_within xs i ls h in omega (arith, g, e)
+
+    beyond : (i j n k : ℕ) → n ≡ k → i ≡ n + j → k ≤ i
+    beyond i j n k e h = omega arith
 
 mutual
   shares : (x : Stmt) (first a b : ℕ) (ls ms : List ℕ) → slice_get ((by_stmt numbered_step x).numbers first) a ≡ Some ls → slice_get ((by_stmt numbered_step x).numbers first) b ≡ Some ms
@@ -79,7 +134,13 @@ mutual
       let u = from_map (λ q. first ∷ q) numbers a ls e in
       let v = from_map (λ q. first ∷ q) numbers b ms f in
       ap suc (row_shares body (suc first) a b u.0 v.0 u.1 v.1) ∙ sym (shared_same first u.0 v.0) ∙ ap (λ z. shared z (first ∷ v.0)) (sym u.2) ∙ ap (shared ls) (sym v.2)
-  shares (s.If' conds shape body) first a b ls ms e f = row_shares body first a b ls ms e f
+  shares (s.If' cond shape body shape' other) first a b ls ms e f =
+      let n = all_loops (by_each numbered_step body) in
+      let m = all_loops (by_each numbered_step other) in
+      parts_share (assigns_among (by_each sharing_step body)) (loops_among (by_each sharing_step body)) (loops_among (by_each sharing_step other))
+      (in_text_order (by_each numbered_step body) first) (in_text_order (by_each numbered_step other) (first + n)) (row_counts body first)
+      (λ i j ks os u v. row_shares body first i j ks os u v) (λ i j ks os u v. row_shares other (first + n) i j ks os u v)
+      (λ i j ks os u v. shared_none first n m ks os (row_starts body first i ks u) (row_starts other (first + n) j os v)) a b ls ms e f
   shares (s.Assign op array subs value) first a b ls ms e f = ap (λ z. shared z ms) (sym (alone a ls e))
   shares (s.Block' locals shape body) first a b ls ms e f = row_shares body first a b ls ms e f
 
@@ -93,26 +154,8 @@ mutual
       let n = (by_stmt numbered_step x).loops in
       let m = all_loops (by_each numbered_step rest) in
       let vs = in_text_order (by_each numbered_step rest) (first + n) in
-      let count : length us ≡ t.assigns = counts x first in
-      elim (from_append us vs a ls e) [
-        | inl i ↦
-            let here : a < t.assigns = within us a ls t.assigns count i in
-            elim (from_append us vs b ms f) [
-              | inl j ↦ both_here t ts a b here (within us b ms t.assigns count j) ∙ shares x first a b ls ms i j
-              | inr r ↦ first_here t ts a b here (beyond b r.0 (length us) t.assigns count r.1) ∙ sym (shared_none first n m ls ms (starts x first a ls i) (row_starts rest (first + n) r.0 ms r.2)).0
-            ]
-        | inr q ↦ elim (from_append us vs b ms f) [
-          | inl j ↦ second_here t ts a b (beyond a q.0 (length us) t.assigns count q.1) (within us b ms t.assigns count j)
-              ∙ sym (shared_none first n m ms ls (starts x first b ms j) (row_starts rest (first + n) q.0 ls q.2)).1
-          | inr r ↦ both_behind t ts a b q.0 r.0 (q.1 ∙ ap (λ k. k + q.0) count) (r.1 ∙ ap (λ k. k + r.0) count) ∙ row_shares rest (first + n) q.0 r.0 ls ms q.2 r.2
-        ]
-      ]
-    where
-      within : (xs : List (List ℕ)) (i : ℕ) (ls : List ℕ) (k : ℕ) → length xs ≡ k → slice_get xs i ≡ Some ls → i < k
-      within xs i ls k e h = let g = slice_get_within xs i ls h in omega (arith, g, e)
-
-      beyond : (i j n k : ℕ) → n ≡ k → i ≡ n + j → k ≤ i
-      beyond i j n k e h = omega arith
+      parts_share t.assigns t.loops (loops_among ts) us vs (counts x first) (λ i j ks os u v. shares x first i j ks os u v) (λ i j ks os u v. row_shares rest (first + n) i j ks os u v)
+      (λ i j ks os u v. shared_none first n m ks os (starts x first i ks u) (row_starts rest (first + n) j os v)) a b ls ms e f
 
 -- ---- Programs
 

@@ -1,11 +1,12 @@
 -- What the comparison answers at small programs, where N is 2. Each answer was found by hand from the rules.
-use Rattle.std.specs.Prelude.{◌≡◌, ℕ, zero, suc, ℤ, pos, negsuc, false, List, [], ◌∷◌, length, None, refl}
+use Rattle.std.specs.Prelude.{◌≡◌, ℕ, zero, suc, ℤ, pos, negsuc, false, List, [], ◌∷◌, length, map, None, refl}
 use Rattle.std.specs.declared.cmp.Ordering.{Ordering}
 use Rattle.std.specs.declared.cmp.Ordering.TheVariants as o
 use Rattle.std.proofs.Common.{subst, lit≤}
 use Rattle.std.proofs.lemmas.List.Elements.{All-nil, All-cons}
 use Rattle.std.proofs.lemmas.Option.{same_Some, none-some}
 use Rattle.affc_rows.specs.Forms.{Affine, columns_of, composed_form, HaveColumns}
+use Rattle.affc_ast.specs.declared.tree.Cond.TheVariants as cond
 use Rattle.affc_ast.specs.declared.tree.Instance.{Instance}
 use Rattle.affc_ast.specs.declared.tree.Ix.{Ix}
 use Rattle.affc_ast.specs.declared.tree.Ix.TheVariants.{Lit, Name}
@@ -14,7 +15,7 @@ use Rattle.affc_ast.specs.declared.tree.Program.{Program}
 use Rattle.affc_ast.specs.declared.tree.Rel.TheVariants.{Less}
 use Rattle.affc_ast.specs.declared.tree.Role.TheVariants.{Output}
 use Rattle.affc_ast.specs.declared.tree.Stmt.{Stmt}
-use Rattle.affc_ast.specs.declared.tree.Stmt.TheVariants.{For, Assign}
+use Rattle.affc_ast.specs.declared.tree.Stmt.TheVariants.{For, If, Assign}
 use Rattle.affc_ast.specs.declared.tree.Val.TheVariants.{Const}
 use Rattle.affc_trace.specs.declared.schedule.Schedule.{Schedule}
 use Rattle.affc_trace.specs.declared.schedule.Schedule.TheVariants.{Source, Time}
@@ -24,6 +25,7 @@ use Rattle.affc_trace.specs.Inverses.{column, GivesColumn}
 use Rattle.affc_trace.specs.Target.{target}
 use Rattle.affc_compare.specs.Asked.{AreAsked}
 use Rattle.affc_compare.specs.Compared.{IsOrderIn}
+use Rattle.affc_compare.specs.Sharing.{common_loops}
 
 -- ---- Programs over N, from 1 to 4, and an array of N numbers
 
@@ -73,6 +75,16 @@ OneLoopIsShared =
     Answers side_by_side Source (at_both 0 0 1) (at_both 1 0 0) o.Less
     × Answers side_by_side Source (at_both 0 1 0) (at_both 1 0 1) o.Greater
     × Answers side_by_side Source (at_both 1 0 1) (at_both 1 0 1) o.Equal
+
+-- for i { if (N < 1) for j { S0 } else { S1 for k { S2 S3 } } }
+abbrev branching : Program
+branching = program (each (If (cond.Compare Less n (Lit (pos 1))) (each (clear 2 ∷ []) ∷ []) (clear 1 ∷ each (clear 2 ∷ clear 2 ∷ []) ∷ []) ∷ []) ∷ [])
+
+-- two branches share the loops round their `if`
+abbrev pub SharedByBranches : Type 0
+SharedByBranches =
+    (map (common_loops branching 0) (0 ∷ 1 ∷ 2 ∷ []) ≡ 2 ∷ 1 ∷ 1 ∷ [])
+    × (map (common_loops branching 3) (0 ∷ 1 ∷ 2 ∷ []) ≡ 1 ∷ 1 ∷ 2 ∷ [])
 
 -- ---- Times
 

@@ -9,20 +9,31 @@ use affc_ast::tree::{Instance, Program, Stmt};
 use std::cmp::Ordering;
 
 /// How many assignments the statement has.
+#[cycle(counts)]
 #[tactic(auto, using(affc_ast::proofs::Outs::stmt_outs))]
 fn assign_count(s: &Stmt) -> u32
     requires { (sharing s.now).assigns < 2 ^ 32 }
     ensures { result ≡ (sharing s.now).assigns }
 {
-    let body = match s {
-        Stmt::Assign { .. } => return 1,
-        Stmt::For { body, .. } => body,
-        Stmt::If { body, .. } => body,
-        Stmt::Block { body, .. } => body,
-    };
+    match s {
+        Stmt::Assign { .. } => 1,
+        Stmt::For { body, .. } => count_among(body.as_slice()),
+        Stmt::If { body, other, .. } => {
+            count_among(body.as_slice()) + count_among(other.as_slice())
+        }
+        Stmt::Block { body, .. } => count_among(body.as_slice()),
+    }
+}
+
+/// How many these statements have.
+#[cycle(counts)]
+fn count_among(body: &[Stmt]) -> u32
+    requires { assigns_among (map sharing body.now) < 2 ^ 32 }
+    ensures { result ≡ assigns_among (map sharing body.now) }
+{
     let mut count = 0;
-    for inner in body.as_slice() {
-        count += assign_count(inner);
+    for s in body {
+        count += assign_count(s);
     }
     count
 }
@@ -37,7 +48,19 @@ fn loops_in(s: &Stmt, a: u32, b: u32) -> usize
 {
     match s {
         Stmt::For { body, .. } => 1 + loops_among(body.as_slice(), a, b),
-        Stmt::If { body, .. } => loops_among(body.as_slice(), a, b),
+        Stmt::If { body, other, .. } => {
+            let count = count_among(body.as_slice());
+            if a < count {
+                if b < count {
+                    return loops_among(body.as_slice(), a, b);
+                }
+                return 0;
+            }
+            if b < count {
+                return 0;
+            }
+            loops_among(other.as_slice(), a - count, b - count)
+        }
         Stmt::Assign { .. } => 0,
         Stmt::Block { body, .. } => loops_among(body.as_slice(), a, b),
     }

@@ -9,9 +9,10 @@ use Rattle.affc_ast.specs.declared.tree.Compare.{Compare}
 use Rattle.affc_ast.specs.declared.tree.Ix.{Ix}
 use Rattle.affc_ast.specs.declared.tree.Program.{Program}
 use Rattle.affc_ast.specs.declared.tree.Rel.{Rel}
-use Rattle.affc_ast.specs.declared.tree.Rel.TheVariants.{Less, LessEqual, Greater, GreaterEqual, Equal}
+use Rattle.affc_ast.specs.declared.tree.Rel.TheVariants.{Less, LessEqual, Greater, GreaterEqual, Equal, NotEqual}
 use Rattle.affc_domain.specs.Affine.{form_of}
-use Rattle.affc_domain.specs.Plain.{is_plain, plain_tests}
+use Rattle.affc_ast.specs.Joined.{is_ordered, tests_of}
+use Rattle.affc_domain.specs.Plain.{is_plain, plain_tests, plain_cond}
 use Rattle.affc_domain.specs.Ranges.{number_ranges}
 use Rattle.affc_domain.specs.Rounds.{Round, Loop, Test, loops_in}
 use Rattle.affc_domain.proofs.Lists.{both_true}
@@ -22,6 +23,7 @@ use Rattle.affc_nest.specs.Frames.{plain_at}
 use Rattle.affc_nest.specs.Laws.{HasNest, IsEntry}
 use Rattle.affc_nest.specs.Sides.{IsSide, NearRanges}
 use Rattle.affc_nest.specs.Sites.{Place}
+use Rattle.affc_nest.proofs.CondRows.{of_cond}
 use Rattle.affc_nest.proofs.EntryLemmas.{site_of, ranges_there, domain_is}
 use Rattle.affc_nest.proofs.PlaceProofs.{near_numbers, near_within, plain_place}
 use Rattle.affc_nest.proofs.RowLemmas.{plain_side, column_side, number_side, gap_fits}
@@ -35,15 +37,17 @@ module _ (P : Affine → Type 0) (gap : (n : ℕ) (a b : Affine) (k : ℕ) → I
   compared n LessEqual a b s t = one_row n 0 a b (omega arith) s t
   compared n Greater a b s t = one_row n 1 b a (omega arith) t s
   compared n GreaterEqual a b s t = one_row n 0 b a (omega arith) t s
+  compared n NotEqual a b s t = All-nil P
   compared n Equal a b s t = All-cons P (gap_row b a 0) (gap_row a b 0 ∷ []) (gap n b a 0 t s (omega arith)) (one_row n 0 a b (omega arith) s t)
 
   tested : (names more : ℕ) (cs : List Compare) → IsTrue (plain_tests names cs) → All P (test_rows names more cs)
   tested names more [] h = All-nil P
   tested names more (c ∷ cs) h =
-      let a = both_true (is_plain names c.left) (is_plain names c.right && plain_tests names cs) h in
-      let b = both_true (is_plain names c.right) (plain_tests names cs) a.1 in
+      let a = both_true (is_plain names c.left) _ h in
+      let b = both_true (is_plain names c.right) _ a.1 in
+      let o = both_true (is_ordered c.rel) (plain_tests names cs) b.1 in
       All-append P (compare_rows c.rel (form_of names more c.left) (form_of names more c.right)) (test_rows names more cs)
-      (compared (names + more) c.rel (form_of names more c.left) (form_of names more c.right) (plain_side names more c.left a.0) (plain_side names more c.right b.0)) (tested names more cs b.1)
+      (compared (names + more) c.rel (form_of names more c.left) (form_of names more c.right) (plain_side names more c.left a.0) (plain_side names more c.right b.0)) (tested names more cs o.1)
 
   ranged : (n j : ℕ) (r : ℤ × ℤ) → unsigned_abs r.0 ≤ 2 ^ 32 → unsigned_abs r.1 ≤ 2 ^ 32 → All P (range_rows n j r)
   ranged n j r h g =
@@ -70,17 +74,19 @@ module _ (P : Affine → Type 0) (gap : (n : ℕ) (a b : Affine) (k : ℕ) → I
       let b = both_true (is_plain names high) (plain_at (suc names) rs) a.1 in
       All-append P (bounds_of names low rel high (suc (loops_in rs))) (range_rows n names r ++ loop_rows (suc names) boxes rs) (bounded names low rel high (suc (loops_in rs)) a.0 b.0)
       (All-append P (range_rows n names r) (loop_rows (suc names) boxes rs) (ranged n names r near.0 near.1) (looped (suc names) boxes rs near.2 b.1))
-  looped names [] (Test conds ∷ rs) near h = looped names [] rs near (both_true (plain_tests names conds) (plain_at names rs) h).1
-  looped names (r ∷ boxes) (Test conds ∷ rs) near h = looped names (r ∷ boxes) rs near (both_true (plain_tests names conds) (plain_at names rs) h).1
+  looped names [] (Test cond ∷ rs) near h = looped names [] rs near (both_true (plain_cond names cond) (plain_at names rs) h).1
+  looped names (r ∷ boxes) (Test cond ∷ rs) near h = looped names (r ∷ boxes) rs near (both_true (plain_cond names cond) (plain_at names rs) h).1
 
   conditioned : (names : ℕ) (rs : List Round) → IsTrue (plain_at names rs) → All P (condition_rows names rs)
   conditioned names [] h = All-nil P
   conditioned names (Loop iter low rel high ∷ rs) h =
       let a = both_true (is_plain names low) (is_plain names high && plain_at (suc names) rs) h in
       conditioned (suc names) rs (both_true (is_plain names high) (plain_at (suc names) rs) a.1).1
-  conditioned names (Test conds ∷ rs) h =
-      let a = both_true (plain_tests names conds) (plain_at names rs) h in
-      All-append P (test_rows names (loops_in rs) conds) (condition_rows names rs) (tested names (loops_in rs) conds a.0) (conditioned names rs a.1)
+  conditioned names (Test cond ∷ rs) h =
+      let a = both_true (plain_cond names cond) (plain_at names rs) h in
+      let more = loops_in rs in
+      All-append P (test_rows names more (tests_of cond)) (condition_rows names rs)
+      (of_cond P names more (λ rel x y p q. compared (names + more) rel (form_of names more x) (form_of names more y) (plain_side names more x p) (plain_side names more y q)) cond a.0) (conditioned names rs a.1)
 
   pub domain_rows_are : (program : Program) (has : HasNest program) (part : ℕ) (e : Entry) → IsEntry program part e → IsTrue e.alive → All P e.domain.rows
   domain_rows_are program has part e h alive =

@@ -230,7 +230,7 @@ near_ranges (Loop iter low rel high ∷ rs) outer boxes e r i =
         → (IsIn r others → (r.0 ≤ℤ r.1) × IsTrue (is_near r.0 && is_near r.1)) → IsIn r (q ∷ others) → (r.0 ≤ℤ r.1) × IsTrue (is_near r.0 && is_near r.1)
     here q others a b f (inl is) = subst (λ (z : ℤ × ℤ). (z.0 ≤ℤ z.1) × IsTrue (is_near z.0 && is_near z.1)) (sym is) (ordered q.0 q.1 a, kept (is_near q.0 && is_near q.1) b)
     here q others a b f (inr i) = f i
-near_ranges (Test conds ∷ rs) outer boxes e r i = near_ranges rs outer boxes e r i
+near_ranges (Test cond ∷ rs) outer boxes e r i = near_ranges rs outer boxes e r i
 
 pub ranges_are_within : (program : Program) (statement : ℕ) (e : Entry) (s : SiteOf program statement e) (boxes : List (ℤ × ℤ)) → ranges_of (number_ranges program.params) s.its_rounds ≡ Within boxes → e.ranges ≡ boxes
 ranges_are_within program statement e s boxes w = ap (λ (x : Entry). x.ranges) s.is ∙ ap ranges_in w

@@ -6,6 +6,8 @@ pub mod QuestionLemmas
 pub mod SmallLemmas
 pub mod WidenLemmas
 pub mod RowLemmas
+pub mod CondLemmas
+pub mod CondRows
 pub mod WidthLemmas
 pub mod IntervalLemmas
 pub mod ExampleProofs

@@ -5,12 +5,13 @@ use Rattle.affc_ast.specs.declared.tree.Program.{Program}
 use Rattle.affc_ast.specs.declared.tree.Stmt.{Stmt}
 use Rattle.affc_ast.specs.declared.tree.Stmt.TheVariants as s
 use Rattle.affc_ast.specs.declared.tree.Stmt.TheBlock.{Row_of-Stmt, more_of-Stmt, end_of-Stmt}
+use Rattle.affc_ast.specs.Denials.{denied}
 use Rattle.affc_ast.specs.Recursion.{by_stmt, by_each}
 use Rattle.affc_ast.proofs.Steps.{row_of, unrolled, flat_unrolled}
 use Rattle.affc_ast.specs.Trace.{assignments, assignments_step, joined}
 use Rattle.affc_trace.proofs.EndedReads.{append_assoc}
 use Rattle.affc_trace.proofs.LastStores.{append_nil, map_append}
-use Rattle.affc_domain.specs.Loops.{Numbered, numbered_step, in_text_order, loop_numbers}
+use Rattle.affc_domain.specs.Loops.{Numbered, all_loops, numbered_step, in_text_order, loop_numbers}
 use Rattle.affc_domain.specs.Rounds.{Round, Loop, Test, rounds_step, rounds}
 use Rattle.affc_nest.specs.Sites.{Place, loops_of, in_turn, walked_step, all_around, all_numbers, all_assigned, places_of}
 
@@ -39,7 +40,8 @@ moved k m n l e = omega (arith, e)
 mutual
   same_number : (x : Stmt) → (by_stmt walked_step x).loops ≡ (by_stmt numbered_step x).loops
   same_number (s.For' iter low rel high shape body) = ap suc (from_none (loops_of (by_each walked_step body)) ∙ row_same_number body 0)
-  same_number (s.If' conds shape body) = from_none (loops_of (by_each walked_step body)) ∙ row_same_number body 0
+  same_number (s.If' cond shape body shape' other) =
+      λ i. (from_none (loops_of (by_each walked_step body)) ∙ row_same_number body 0) i + (from_none (loops_of (by_each walked_step other)) ∙ row_same_number other 0) i
   same_number (s.Assign op array subs value) = refl
   same_number (s.Block' locals shape body) = from_none (loops_of (by_each walked_step body)) ∙ row_same_number body 0
 
@@ -57,8 +59,14 @@ mutual
   same_around (s.For' iter low rel high shape body) around numbers first =
       row_same_around body (around ++ Loop iter low rel high ∷ []) (numbers ++ first ∷ []) (suc first)
       ∙ behind_one around (Loop iter low rel high) (joined (by_each rounds_step body))
-  same_around (s.If' conds shape body) around numbers first =
-      row_same_around body (around ++ Test conds ∷ []) numbers first ∙ behind_one around (Test conds) (joined (by_each rounds_step body))
+  same_around (s.If' cond shape body shape' other) around numbers first =
+      let next = first + loops_of (by_each walked_step body) in
+      let inside = joined (by_each rounds_step body) in
+      let beside = joined (by_each rounds_step other) in
+      map_append (λ (p : Place). p.around) (in_turn (by_each walked_step body) (around ++ Test cond ∷ []) numbers first) (in_turn (by_each walked_step other) (around ++ Test (denied cond) ∷ []) numbers next)
+      ∙ ap (λ rss. rss ++ all_around (in_turn (by_each walked_step other) (around ++ Test (denied cond) ∷ []) numbers next)) (row_same_around body (around ++ Test cond ∷ []) numbers first ∙ behind_one around (Test cond) inside)
+      ∙ ap (λ rss. map (λ rs. around ++ rs) (map (λ rs. Test cond ∷ rs) inside) ++ rss) (row_same_around other (around ++ Test (denied cond) ∷ []) numbers next ∙ behind_one around (Test (denied cond)) beside)
+      ∙ sym (map_append (λ rs. around ++ rs) (map (λ rs. Test cond ∷ rs) inside) (map (λ rs. Test (denied cond) ∷ rs) beside))
   same_around (s.Assign op array subs value) around numbers first = ap (λ rs. rs ∷ []) (sym (append_nil around))
   same_around (s.Block' locals shape body) around numbers first = row_same_around body around numbers first
 
@@ -88,7 +96,14 @@ mutual
   same_numbers (s.For' iter low rel high shape body) around numbers first =
       row_same_numbers body (around ++ Loop iter low rel high ∷ []) (numbers ++ first ∷ []) (suc first)
       ∙ behind_one numbers first (in_text_order (by_each numbered_step body) (suc first))
-  same_numbers (s.If' conds shape body) around numbers first = row_same_numbers body (around ++ Test conds ∷ []) numbers first
+  same_numbers (s.If' cond shape body shape' other) around numbers first =
+      let next = first + loops_of (by_each walked_step body) in
+      let there = first + all_loops (by_each numbered_step body) in
+      map_append (λ (p : Place). p.loops) (in_turn (by_each walked_step body) (around ++ Test cond ∷ []) numbers first) (in_turn (by_each walked_step other) (around ++ Test (denied cond) ∷ []) numbers next)
+      ∙ ap (λ lss. lss ++ all_numbers (in_turn (by_each walked_step other) (around ++ Test (denied cond) ∷ []) numbers next)) (row_same_numbers body (around ++ Test cond ∷ []) numbers first)
+      ∙ ap (λ lss. map (λ ls. numbers ++ ls) (in_text_order (by_each numbered_step body) first) ++ lss) (row_same_numbers other (around ++ Test (denied cond) ∷ []) numbers next)
+      ∙ ap (λ k. map (λ ls. numbers ++ ls) (in_text_order (by_each numbered_step body) first) ++ map (λ ls. numbers ++ ls) (in_text_order (by_each numbered_step other) (first + k))) (from_none (loops_of (by_each walked_step body)) ∙ row_same_number body 0)
+      ∙ sym (map_append (λ ls. numbers ++ ls) (in_text_order (by_each numbered_step body) first) (in_text_order (by_each numbered_step other) there))
   same_numbers (s.Assign op array subs value) around numbers first = ap (λ ls. ls ∷ []) (sym (append_nil numbers))
   same_numbers (s.Block' locals shape body) around numbers first = row_same_numbers body around numbers first
 
@@ -117,7 +132,11 @@ numbers_walked program =
 mutual
   same_assigned : (x : Stmt) (around : List Round) (numbers : List ℕ) (first : ℕ) → all_assigned ((by_stmt walked_step x).places around numbers first) ≡ by_stmt assignments_step x
   same_assigned (s.For' iter low rel high shape body) around numbers first = row_same_assigned body (around ++ Loop iter low rel high ∷ []) (numbers ++ first ∷ []) (suc first)
-  same_assigned (s.If' conds shape body) around numbers first = row_same_assigned body (around ++ Test conds ∷ []) numbers first
+  same_assigned (s.If' cond shape body shape' other) around numbers first =
+      let next = first + loops_of (by_each walked_step body) in
+      map_append (λ (p : Place). p.assignment) (in_turn (by_each walked_step body) (around ++ Test cond ∷ []) numbers first) (in_turn (by_each walked_step other) (around ++ Test (denied cond) ∷ []) numbers next)
+      ∙ ap (λ as'. as' ++ all_assigned (in_turn (by_each walked_step other) (around ++ Test (denied cond) ∷ []) numbers next)) (row_same_assigned body (around ++ Test cond ∷ []) numbers first)
+      ∙ ap (λ as'. joined (by_each assignments_step body) ++ as') (row_same_assigned other (around ++ Test (denied cond) ∷ []) numbers next)
   same_assigned (s.Assign op array subs value) around numbers first = refl
   same_assigned (s.Block' locals shape body) around numbers first = row_same_assigned body around numbers first
 

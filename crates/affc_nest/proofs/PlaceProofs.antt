@@ -4,11 +4,12 @@ use Rattle.std.specs.Prelude.{◌&&◌, int_le, nat_le, nat_abs, nat_lt, unsigne
 use Rattle.std.proofs.lemmas.Bool.{leb-true}
 use Rattle.affc_ast.specs.declared.tree.Compare.{Compare}
 use Rattle.affc_ast.specs.declared.tree.Program.{Program}
+use Rattle.affc_ast.specs.Pieces.{comparisons_of}
 use Rattle.affc_ast.specs.Trace.{Assignment, assignments}
 use Rattle.affc_trace.specs.Law.{IsIn}
 use Rattle.affc_domain.specs.Accesses.{accesses_of}
 use Rattle.affc_domain.specs.Loops.{loop_numbers}
-use Rattle.affc_domain.specs.Plain.{IsPlain, is_plain, plain_tests, is_upward, plain_range, plain_ranges}
+use Rattle.affc_domain.specs.Plain.{IsPlain, is_plain, plain_cond, is_upward, plain_range, plain_ranges}
 use Rattle.affc_domain.specs.Ranges.{Ranges, Within, Never, Wide, is_near, number_ranges, ranges_of, first_wide_of, first_wide}
 use Rattle.affc_domain.specs.Rounds.{Round, Loop, Test, rounds, loops_in, comparisons_in}
 use Rattle.affc_domain.proofs.Lists.{both_true, true_both, length_map}
@@ -62,9 +63,9 @@ plain_here params loops comparisons names (Loop iter low rel high ∷ rs) e h =
   where
     deeper : (n m k : ℕ) → n ≡ m + k → suc n ≡ m + suc k
     deeper n m k e = omega (arith, e)
-plain_here params loops comparisons names (Test conds ∷ rs) e h =
-    let a = both_true (plain_tests (params + loops) conds) (plain_rounds params loops (comparisons + length conds) rs) h in
-    true_both (plain_tests names conds) (plain_at names rs) (subst (λ n. IsTrue (plain_tests n conds)) (sym e) a.0) (plain_here params loops (comparisons + length conds) names rs e a.1)
+plain_here params loops comparisons names (Test cond ∷ rs) e h =
+    let a = both_true (plain_cond (params + loops) cond) (plain_rounds params loops (comparisons + comparisons_of cond) rs) h in
+    true_both (plain_cond names cond) (plain_at names rs) (subst (λ n. IsTrue (plain_cond n cond)) (sym e) a.0) (plain_here params loops (comparisons + comparisons_of cond) names rs e a.1)
 
 pub plain_place : (params : ℕ) (p : Place) → lemma.PlainThere params 0 0 p.around p.assignment → IsPlainPlace params p
 plain_place params p h = record {

@@ -15,6 +15,7 @@ use Rattle.affc_ast.specs.declared.tree.Param.{Param}
 use Rattle.affc_ast.specs.declared.tree.Param.TheVariants.{Number, Array}
 use Rattle.affc_ast.specs.declared.tree.Program.{Program}
 use Rattle.affc_ast.specs.Fits.{whole_of, within_ranges, meets, holds, all_hold}
+use Rattle.affc_ast.specs.Joined.{is_ordered}
 use Rattle.affc_ast.specs.Trace.{trace}
 use Rattle.affc_trace.specs.Law.{IsIn}
 use Rattle.affc_trace.specs.Laws.{IsInContext}
@@ -24,6 +25,7 @@ use Rattle.affc_domain.specs.Affine.{linear, is_affine}
 use Rattle.affc_domain.specs.Plain.{is_plain, plain_tests, IsPlain}
 use Rattle.affc_domain.specs.Ranges.{number_ranges, Ranges, Within, Never, Wide, outermost, is_near, range_of, entered, ranges_of, AreWithin}
 use Rattle.affc_domain.specs.Rounds.{Round, Loop, Test, rounds, turns, loops_in}
+use Rattle.affc_domain.proofs.ConditionLemmas.{conditions_are_joined}
 use Rattle.affc_domain.proofs.CountLemmas.{turns_long}
 use Rattle.affc_domain.proofs.FormLemmas.{column_value, number_value, number_width}
 use Rattle.affc_domain.proofs.Lists.{both_true, true_both, le_true, length_push, at_seam}
@@ -121,11 +123,12 @@ context_meets seen [] p a h = refl
 context_meets seen (d ∷ cs) p a h =
     let b = both_true (holds d p) (all_hold cs p) h in
     let l = both_true (is_plain seen d.left) _ a in
-    let r = both_true (is_plain seen d.right) (plain_tests seen cs) l.1 in
+    let r = both_true (is_plain seen d.right) _ l.1 in
+    let o = both_true (is_ordered d.rel) (plain_tests seen cs) r.1 in
     true_both ((whole_of d.left p).defined && (whole_of d.right p).defined && holds d p) (meets cs p)
     (true_both ((whole_of d.left p).defined && (whole_of d.right p).defined) (holds d p)
     (true_both (whole_of d.left p).defined (whole_of d.right p).defined (defined d.left p (is_plain_affine seen d.left l.0)) (defined d.right p (is_plain_affine seen d.right r.0))) b.0)
-    (context_meets seen cs p r.1 b.1)
+    (context_meets seen cs p o.1 b.1)
 
 -- ---- Loops
 
@@ -146,7 +149,7 @@ loops_met (Loop iter low rel high ∷ rs) (r ∷ boxes) names (x ∷ xs) e b m =
     inner names x xs (λ n. loop_rows n boxes rs) (loops_met rs boxes (names ++ x ∷ []) xs e' b.2 (outer names x xs (λ n. bound_rows n rs) a.1)) in
     met_append zs front (range_rows (length names + k) (length names) r ++ loop_rows (suc (length names)) boxes rs) a.0
     (met_append zs (range_rows (length names + k) (length names) r) (loop_rows (suc (length names)) boxes rs) here rest)
-loops_met (Test conds ∷ rs) boxes names xs e b m = loops_met rs boxes names xs e b m
+loops_met (Test cond ∷ rs) boxes names xs e b m = loops_met rs boxes names xs e b m
 
 -- and the other way round, where each loop has a range
 met_loops : (rs : List Round) (boxes : List (ℤ × ℤ)) (names xs : List ℤ) → length xs ≡ loops_in rs → length boxes ≡ loops_in rs → Met (names ++ xs) (loop_rows (length names) boxes rs) → Met (names ++ xs) (bound_rows (length names) rs)
@@ -163,7 +166,7 @@ met_loops (Loop iter low rel high ∷ rs) (r ∷ boxes) names (x ∷ xs) e g m =
     let b = met_both zs (range_rows (length names + k) (length names) r) (loop_rows (suc (length names)) boxes rs) a.1 in
     met_append zs front (bound_rows (suc (length names)) rs) a.0
     (inner names x xs (λ n. bound_rows n rs) (met_loops rs boxes (names ++ x ∷ []) xs e' g' (outer names x xs (λ n. loop_rows n boxes rs) b.1)))
-met_loops (Test conds ∷ rs) boxes names xs e g m = met_loops rs boxes names xs e g m
+met_loops (Test cond ∷ rs) boxes names xs e g m = met_loops rs boxes names xs e g m
 
 -- what each list of ranges is
 pub of_entered : (r : ℤ × ℤ) (inside : Ranges) (boxes : List (ℤ × ℤ)) → entered r inside ≡ Within boxes → (others : List (ℤ × ℤ)) × (boxes ≡ r ∷ others) × (inside ≡ Within others)
@@ -187,7 +190,7 @@ of_ranges (Loop iter low rel high ∷ rs) ranges boxes e =
     let o = of_entered r (ranges_of (ranges ++ r ∷ []) rs) boxes e in
     let h = of_ranges rs (ranges ++ r ∷ []) o.0 o.2 in
     ap length o.1 ∙ ap suc h
-of_ranges (Test conds ∷ rs) ranges boxes e = of_ranges rs ranges boxes e
+of_ranges (Test cond ∷ rs) ranges boxes e = of_ranges rs ranges boxes e
 
 -- a list of ranges has one for each loop
 pub ranges_long : (rs : List Round) (ranges boxes : List (ℤ × ℤ)) → ranges_of ranges rs ≡ Within boxes → length boxes ≡ loops_in rs
@@ -232,7 +235,7 @@ module _ (program : Program) (p : List ℤ) (b : Instance) (rs : List Round) (bo
       let e : length b.iterators ≡ n = turns_long rs p b.iterators its_turns in
       let m : length ps ≡ length p = box_length ps p (in_ranges program.params p inside.ranges) in
       let w : InBox boxes b.iterators = subst (λ q. AreWithin q b.iterators) within (iterators_keep_ranges program p b rs plain inside.ranges i at) in
-      let r = turns_met (length ps) 0 0 rs p b.iterators (rounds_are_plain program plain b.statement rs at) its_turns in
+      let r = turns_met (length ps) 0 0 rs p b.iterators (rounds_are_plain program plain b.statement rs at) (conditions_are_joined program plain.tests b.statement rs at) its_turns in
       let c = context_met program p b.iterators plain inside in
       let one : Met zs (box_rows (length ps + n) 0 ps) = subst (λ k. Met zs (box_rows (length ps + k) 0 ps)) e c.0 in
       let two : Met zs (test_rows (length ps) n program.context) = subst (λ k. Met zs (test_rows (length ps) k program.context)) e c.1 in
@@ -252,4 +255,4 @@ module _ (program : Program) (p : List ℤ) (b : Instance) (rs : List Round) (bo
       let inside = met_context program p b.iterators plain l (subst (λ k. Met zs (box_rows (length ps + k) 0 ps)) (sym e) u.0) (subst (λ k. Met zs (test_rows (length ps) k program.context)) (sym e) v.0) in
       let loops : Met zs (bound_rows (length p) rs) = met_loops rs boxes p b.iterators e (ranges_long rs ps boxes within) (subst (λ k. Met zs (loop_rows k boxes rs)) (sym l) w.0) in
       let tests : Met zs (condition_rows (length p) rs) = subst (λ k. Met zs (condition_rows k rs)) (sym l) w.1 in
-      (inside, (instances_turn program p b).1 (rs, at, met_turns (length ps) 0 0 rs p b.iterators (rounds_are_plain program plain b.statement rs at) e loops tests))
+      (inside, (instances_turn program p b).1 (rs, at, met_turns (length ps) 0 0 rs p b.iterators (rounds_are_plain program plain b.statement rs at) (conditions_are_joined program plain.tests b.statement rs at) e loops tests))

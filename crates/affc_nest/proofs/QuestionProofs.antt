@@ -8,7 +8,9 @@ use Rattle.affc_ast.specs.declared.tree.Compare.{Compare}
 use Rattle.affc_ast.specs.declared.tree.Decl.{Decl}
 use Rattle.affc_ast.specs.declared.tree.Ix.{Ix}
 use Rattle.affc_ast.specs.declared.tree.Program.{Program}
+use Rattle.affc_ast.specs.Joined.{tests_of}
 use Rattle.affc_ast.specs.Meaning.{arrays_of}
+use Rattle.affc_ast.specs.Pieces.{comparisons_of}
 use Rattle.affc_trace.specs.Law.{IsIn}
 use Rattle.affc_trace.proofs.Runs.{length_append}
 use Rattle.affc_domain.specs.Accesses as said
@@ -33,6 +35,7 @@ use Rattle.affc_nest.specs.Sides.{IsSide, NearRanges}
 use Rattle.affc_nest.specs.Sites.{Place}
 use Rattle.affc_nest.specs.Touches.{AllPlain}
 use Rattle.affc_nest.proofs.AccessLemmas.{plain_append}
+use Rattle.affc_nest.proofs.CondLemmas.{few_cond}
 use Rattle.affc_nest.proofs.EntryLemmas.{SiteOf, site_of, columns_are, loops_are}
 use Rattle.affc_nest.proofs.PlaceProofs.{near_numbers, plain_place}
 use Rattle.affc_nest.proofs.RowLemmas.{plain_side, few_box, few_tests, few_loop_rows}
@@ -108,10 +111,10 @@ extent_side nest f n x =
 condition_count : (names : ℕ) (rs : List Round) → length (condition_rows names rs) ≤ 2 * comparisons_in rs
 condition_count names [] = omega arith
 condition_count names (Loop iter low rel high ∷ rs) = condition_count (suc names) rs
-condition_count names (Test conds ∷ rs) =
-    let a = few_tests names (loops_in rs) conds in
+condition_count names (Test cond ∷ rs) =
+    let a : length (test_rows names (loops_in rs) (tests_of cond)) ≤ 2 * comparisons_of cond = few_cond names (loops_in rs) cond in
     let b = condition_count names rs in
-    let d = length_append (test_rows names (loops_in rs) conds) (condition_rows names rs) in
+    let d = length_append (test_rows names (loops_in rs) (tests_of cond)) (condition_rows names rs) in
     omega arith
 
 domain_count : (ps : List (ℤ × ℤ)) (context : List Compare) (boxes : List (ℤ × ℤ)) (rs : List Round) → length ps ≤ 4 → length context ≤ 16 → loops_in rs ≤ 6 → comparisons_in rs ≤ 32

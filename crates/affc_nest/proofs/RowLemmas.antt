@@ -12,7 +12,7 @@ use Rattle.affc_system.proofs.SystemLemmas.{row_of}
 use Rattle.affc_ast.specs.declared.tree.Compare.{Compare}
 use Rattle.affc_ast.specs.declared.tree.Ix.{Ix}
 use Rattle.affc_ast.specs.declared.tree.Rel.{Rel}
-use Rattle.affc_ast.specs.declared.tree.Rel.TheVariants.{Less, LessEqual, Greater, GreaterEqual, Equal}
+use Rattle.affc_ast.specs.declared.tree.Rel.TheVariants.{Less, LessEqual, Greater, GreaterEqual, Equal, NotEqual}
 use Rattle.affc_trace.proofs.EndedReads.{append_assoc}
 use Rattle.affc_trace.proofs.LastStores.{append_nil}
 use Rattle.affc_trace.proofs.Runs.{length_append}
@@ -80,6 +80,7 @@ few_compare LessEqual a b = omega arith
 few_compare Greater a b = omega arith
 few_compare GreaterEqual a b = omega arith
 few_compare Equal a b = omega arith
+few_compare NotEqual a b = omega arith
 
 pub columns_stay : (s t : Rows) (xs : List Affine) → t ≡ with_rows s xs → t.columns ≡ s.columns
 columns_stay s t xs e = ap (λ (r : Rows). r.columns) e
@@ -130,7 +131,7 @@ few_loop_rows names (r ∷ boxes) (Loop iter low rel high ∷ rs) =
     let b = few_loop_rows (suc names) boxes rs in
     let d = length_append (bounds_of names low rel high k) (range_rows (names + k) names r ++ loop_rows (suc names) boxes rs) in
     omega arith
-few_loop_rows names boxes (Test conds ∷ rs) = few_loop_rows names boxes rs
+few_loop_rows names boxes (Test cond ∷ rs) = few_loop_rows names boxes rs
 
 pub loops_last : (s a t u : Rows) (names n m : ℕ) (iter : List ℕ) (low : Ix) (rel : Rel) (high : Ix) (r : ℤ × ℤ) (boxes all : List (ℤ × ℤ)) (rs whole : List Round)
     → whole ≡ Loop iter low rel high ∷ rs → all ≡ r ∷ boxes → s.columns ≡ names + loops_in whole → m ≡ s.columns - names → n ≡ names + 1

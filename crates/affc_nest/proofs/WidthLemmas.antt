@@ -6,7 +6,8 @@ use Rattle.affc_rows.proofs.VocabularyLemmas.{unit_width}
 use Rattle.affc_ast.specs.declared.tree.Compare.{Compare}
 use Rattle.affc_ast.specs.declared.tree.Ix.{Ix}
 use Rattle.affc_ast.specs.declared.tree.Rel.{Rel}
-use Rattle.affc_ast.specs.declared.tree.Rel.TheVariants.{Less, LessEqual, Greater, GreaterEqual, Equal}
+use Rattle.affc_ast.specs.declared.tree.Rel.TheVariants.{Less, LessEqual, Greater, GreaterEqual, Equal, NotEqual}
+use Rattle.affc_ast.specs.Joined.{tests_of}
 use Rattle.affc_domain.specs.Affine.{form_of}
 use Rattle.affc_domain.specs.Rounds.{Round, Loop, Test, loops_in}
 use Rattle.affc_domain.proofs.ColumnLemmas.{no_columns, more_columns, append_columns}
@@ -25,6 +26,7 @@ compare_wide n LessEqual a b u v = one_wide n 0 a b u v
 compare_wide n Greater a b u v = one_wide n 1 b a v u
 compare_wide n GreaterEqual a b u v = one_wide n 0 b a v u
 compare_wide n Equal a b u v = more_columns n (gap_row b a 0) (gap_row a b 0 ∷ []) (gap_wide n b a 0 v u) (one_wide n 0 a b u v)
+compare_wide n NotEqual a b u v = no_columns n
 
 tests_wide : (names more : ℕ) (cs : List Compare) → HaveColumns (names + more) (test_rows names more cs)
 tests_wide names more [] = no_columns (names + more)
@@ -58,13 +60,13 @@ loops_wide names (r ∷ boxes) (Loop iter low rel high ∷ rs) =
     let n = names + suc (loops_in rs) in
     append_columns n (bounds_of names low rel high (suc (loops_in rs))) (range_rows n names r ++ loop_rows (suc names) boxes rs) (bounds_wide names low rel high (suc (loops_in rs)))
     (append_columns n (range_rows n names r) (loop_rows (suc names) boxes rs) (range_wide n names r) (subst (λ k. HaveColumns k (loop_rows (suc names) boxes rs)) (one_in names (loops_in rs)) (loops_wide (suc names) boxes rs)))
-loops_wide names [] (Test conds ∷ rs) = loops_wide names [] rs
-loops_wide names (r ∷ boxes) (Test conds ∷ rs) = loops_wide names (r ∷ boxes) rs
+loops_wide names [] (Test cond ∷ rs) = loops_wide names [] rs
+loops_wide names (r ∷ boxes) (Test cond ∷ rs) = loops_wide names (r ∷ boxes) rs
 
 conditions_wide : (names : ℕ) (rs : List Round) → HaveColumns (names + loops_in rs) (condition_rows names rs)
 conditions_wide names [] = no_columns (names + 0)
 conditions_wide names (Loop iter low rel high ∷ rs) = subst (λ k. HaveColumns k (condition_rows (suc names) rs)) (one_in names (loops_in rs)) (conditions_wide (suc names) rs)
-conditions_wide names (Test conds ∷ rs) = append_columns (names + loops_in rs) (test_rows names (loops_in rs) conds) (condition_rows names rs) (tests_wide names (loops_in rs) conds) (conditions_wide names rs)
+conditions_wide names (Test cond ∷ rs) = append_columns (names + loops_in rs) (test_rows names (loops_in rs) (tests_of cond)) (condition_rows names rs) (tests_wide names (loops_in rs) (tests_of cond)) (conditions_wide names rs)
 
 pub rows_wide : (params : List (ℤ × ℤ)) (context : List Compare) (ranges : List (ℤ × ℤ)) (rs : List Round) → HaveColumns (length params + loops_in rs) (domain_rows params context ranges rs)
 rows_wide params context ranges rs =

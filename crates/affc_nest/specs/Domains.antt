@@ -6,22 +6,24 @@ use Rattle.affc_system.specs.Systems.{Rows}
 use Rattle.affc_ast.specs.declared.tree.Compare.{Compare}
 use Rattle.affc_ast.specs.declared.tree.Ix.{Ix}
 use Rattle.affc_ast.specs.declared.tree.Rel.{Rel}
-use Rattle.affc_ast.specs.declared.tree.Rel.TheVariants.{Less, LessEqual, Greater, GreaterEqual, Equal}
+use Rattle.affc_ast.specs.declared.tree.Rel.TheVariants.{Less, LessEqual, Greater, GreaterEqual, Equal, NotEqual}
+use Rattle.affc_ast.specs.Joined.{tests_of}
 use Rattle.affc_domain.specs.Affine.{form_of}
 use Rattle.affc_domain.specs.Rounds.{Round, Loop, Test, loops_in}
 pub use Rattle.affc_rows.specs.Vocabulary.{gap_row, column_form, number_form}
 
 -- ---- Rows
 
--- the rows of a comparison; "==" first says that the left side is at least the right one
+-- the rows of a comparison; "==" first says that the left side is at least the right one, and "!=" has none
 abbrev pub compare_rows : Rel → (a b : Affine) → List Affine
 compare_rows Less a b = gap_row a b 1 ∷ []
 compare_rows LessEqual a b = gap_row a b 0 ∷ []
 compare_rows Greater a b = gap_row b a 1 ∷ []
 compare_rows GreaterEqual a b = gap_row b a 0 ∷ []
 compare_rows Equal a b = gap_row b a 0 ∷ gap_row a b 0 ∷ []
+compare_rows NotEqual a b = []
 
--- the rows of conditions over so many names in sight, and columns that they don't see
+-- the rows of comparisons over so many names in sight, and columns that they don't see
 abbrev pub test_rows : (names more : ℕ) → List Compare → List Affine
 test_rows names more [] = []
 test_rows names more (c ∷ cs) = compare_rows c.rel (form_of names more c.left) (form_of names more c.right) ++ test_rows names more cs
@@ -50,13 +52,13 @@ loop_rows names [] (Loop iter low rel high ∷ rs) = []
 loop_rows names (r ∷ ranges) (Loop iter low rel high ∷ rs) =
     let more = suc (loops_in rs) in
     bounds_of names low rel high more ++ (range_rows (names + more) names r ++ loop_rows (suc names) ranges rs)
-loop_rows names ranges (Test conds ∷ rs) = loop_rows names ranges rs
+loop_rows names ranges (Test cond ∷ rs) = loop_rows names ranges rs
 
--- the conditions, from outer to inner
+-- the conditions, from outer to inner, each by the comparisons that are joined in it
 abbrev pub condition_rows : (names : ℕ) → List Round → List Affine
 condition_rows names [] = []
 condition_rows names (Loop iter low rel high ∷ rs) = condition_rows (suc names) rs
-condition_rows names (Test conds ∷ rs) = test_rows names (loops_in rs) conds ++ condition_rows names rs
+condition_rows names (Test cond ∷ rs) = test_rows names (loops_in rs) (tests_of cond) ++ condition_rows names rs
 
 -- a domain, where the parameters and the loops have these ranges: the parameters, the context, the loops, the conditions
 abbrev pub domain_rows : (params : List (ℤ × ℤ)) → (context : List Compare) → (ranges : List (ℤ × ℤ)) → List Round → List Affine

@@ -3,21 +3,26 @@ use Rattle.std.specs.Prelude.{◌≡◌, ℕ, ℤ, pos, negsuc, true, false, Lis
 use Rattle.affc_rows.specs.Forms.{Affine}
 use Rattle.affc_system.specs.Systems.{Rows}
 use Rattle.affc_ast.specs.declared.tree.Compare.{Compare}
+use Rattle.affc_ast.specs.declared.tree.Cond.{Cond}
+use Rattle.affc_ast.specs.declared.tree.Cond.TheVariants as cond
 use Rattle.affc_ast.specs.declared.tree.Ix.{Ix}
 use Rattle.affc_ast.specs.declared.tree.Ix.TheVariants.{Lit, Name, Add, Sub, Mul}
 use Rattle.affc_ast.specs.declared.tree.Op.TheVariants as op
 use Rattle.affc_ast.specs.declared.tree.Param.TheVariants.{Number, Array}
 use Rattle.affc_ast.specs.declared.tree.Program.{Program}
 use Rattle.affc_ast.specs.declared.tree.Rel.{Rel}
-use Rattle.affc_ast.specs.declared.tree.Rel.TheVariants.{Less, LessEqual, Greater, GreaterEqual, Equal}
+use Rattle.affc_ast.specs.declared.tree.Rel.TheVariants.{Less, LessEqual, Greater, GreaterEqual, Equal, NotEqual}
 use Rattle.affc_ast.specs.declared.tree.Role.TheVariants.{Output, Temp}
 use Rattle.affc_ast.specs.declared.tree.Stmt.{Stmt}
 use Rattle.affc_ast.specs.declared.tree.Stmt.TheVariants.{For, If, Assign}
 use Rattle.affc_ast.specs.declared.tree.Val.{Val}
 use Rattle.affc_ast.specs.declared.tree.Val.TheVariants.{Load, Const}
 use Rattle.affc_nest.specs.declared.nest.Access.{Access}
+use Rattle.affc_domain.specs.Rounds.{Loop, Test}
+use Rattle.affc_nest.specs.Domains.{condition_rows}
 use Rattle.affc_nest.specs.Nests.{nest_of}
 use Rattle.affc_nest.specs.Questions.{extent_questions, bound_questions}
+use Rattle.affc_nest.specs.Sites.{places_of}
 
 abbrev lit : ℕ → Ix
 lit k = Lit (pos k)
@@ -38,7 +43,7 @@ triangle = record {
   context = record { rel = Equal; left = name 0; right = lit 4 } ∷ [];
   temps = [];
   body =
-      For [] (lit 0) Less (name 0) (For [] (name 1) LessEqual (Mul (lit 2) (name 1)) (If (record { rel = Greater; left = name 2; right = lit 1 } ∷ []) (stores (Add (name 1) (name 2)) ∷ []) ∷ []) ∷ [])
+      For [] (lit 0) Less (name 0) (For [] (name 1) LessEqual (Mul (lit 2) (name 1)) (If (cond.Compare Greater (name 2) (lit 1)) (stores (Add (name 1) (name 2)) ∷ []) [] ∷ []) ∷ [])
       ∷ For [] (lit 5) Less (lit 5) (stores (name 1) ∷ []) ∷ [];
   prelude = false;
 }
@@ -103,6 +108,9 @@ TriangleBounds = bound_questions (nest_of triangle)
 abbrev test : Ix → Rel → Ix → Compare
 test left rel right = record { rel = rel; left = left; right = right }
 
+abbrev when : Ix → Rel → Ix → Cond
+when left rel right = cond.Compare rel left right
+
 -- array[subs] = value;
 abbrev assign : (array : ℕ) → List Ix → Val → Stmt
 assign array subs value = Assign None (record { 0 = array }) subs value
@@ -127,8 +135,8 @@ sieve = record {
   temps = record { name = []; role = Temp; extents = [] } ∷ [];
   body =
       For [] (lit 0) LessEqual (name 0) (
-      If (test (name 1) Less (name 0) ∷ test (name 1) LessEqual (lit 8) ∷ test (name 1) Greater (lit 1) ∷ test (name 1) GreaterEqual (lit 2) ∷ test (name 1) Equal (lit 2) ∷ [])
-      (Assign (Some op.Add) (record { 0 = 0 }) (name 1 ∷ Mul (lit 2) (name 1) ∷ []) (reads 1 []) ∷ [])
+      If (cond.All (when (name 1) Less (name 0) ∷ when (name 1) LessEqual (lit 8) ∷ when (name 1) Greater (lit 1) ∷ when (name 1) GreaterEqual (lit 2) ∷ when (name 1) Equal (lit 2) ∷ []))
+      (Assign (Some op.Add) (record { 0 = 0 }) (name 1 ∷ Mul (lit 2) (name 1) ∷ []) (reads 1 []) ∷ []) []
       ∷ For [] (lit 5) Less (lit 5) (assign 1 [] (reads 0 (name 1 ∷ Mul (name 1) (lit 2) ∷ [])) ∷ []) ∷ []
       )
       ∷ For [] (lit 1) LessEqual (lit 0) (For [] (lit 0) Less (name 0) (assign 1 [] (Const 7) ∷ []) ∷ []) ∷ [];
@@ -263,8 +271,8 @@ OnePointAsksNothing = (extent_questions (nest_of one_point) ≡ []) × (bound_qu
 abbrev equal_loop : ℕ → Stmt → Stmt
 equal_loop outer body = For [] (name outer) LessEqual (name outer) (body ∷ [])
 
-abbrev if_so : Compare → Stmt → Stmt
-if_so condition body = If (condition ∷ []) (body ∷ [])
+abbrev if_so : Cond → Stmt → Stmt
+if_so condition body = If condition (body ∷ []) []
 
 abbrev six : Program
 six = record {
@@ -274,8 +282,8 @@ six = record {
   temps = [];
   body =
       For [] (lit 0) Less (lit 2) (
-      if_so (test (name 0) Greater (lit 0))
-      (equal_loop 0 (equal_loop 1 (equal_loop 2 (equal_loop 3 (equal_loop 4 (if_so (test (name 5) LessEqual (lit 1)) (assign 1 (Add (name 5) (lit 3) ∷ []) (Const 7)))))))) ∷ []
+      if_so (when (name 0) Greater (lit 0))
+      (equal_loop 0 (equal_loop 1 (equal_loop 2 (equal_loop 3 (equal_loop 4 (if_so (when (name 5) LessEqual (lit 1)) (assign 1 (Add (name 5) (lit 3) ∷ []) (Const 7)))))))) ∷ []
       )
       ∷ stores (lit 5) ∷ [];
   prelude = false;
@@ -331,3 +339,44 @@ SixLoopsBounds = bound_questions (nest_of six)
     ≡ record { columns = 6; rows = six_rows ++ row (between 5 0 (negsuc 0 ∷ [])) (negsuc 3) ∷ [] }
     ∷ record { columns = 6; rows = six_rows ++ row (between 5 0 (pos 1 ∷ [])) (negsuc 5) ∷ [] }
     ∷ record { columns = 0; rows = row [] (negsuc 5) ∷ [] } ∷ record { columns = 0; rows = row [] (negsuc 0) ∷ [] } ∷ []
+
+-- ---- Branches
+
+-- if (N < 1 || N > 3) A[0] = 7; else for (i = 0; i < N; i++) if (N > 1 && (N == 2 || N == 4) && N != 6) A[i] = 7;
+abbrev either : Cond
+either = cond.Any (when (name 0) Less (lit 1) ∷ when (name 0) Greater (lit 3) ∷ [])
+
+abbrev joined_three : Cond
+joined_three =
+    cond.All (when (name 0) Greater (lit 1) ∷ cond.Any (when (name 0) Equal (lit 2) ∷ when (name 0) Equal (lit 4) ∷ []) ∷ when (name 0) NotEqual (lit 6) ∷ [])
+
+abbrev branches : Program
+branches = record {
+  name = [];
+  params = Number [] (pos 0) (pos 9) ∷ Array (record { name = []; role = Output; extents = lit 10 ∷ [] }) ∷ [];
+  context = [];
+  temps = [];
+  body = If either (stores (lit 0) ∷ []) (For [] (lit 0) Less (name 0) (If joined_three (stores (name 1) ∷ []) [] ∷ []) ∷ []) ∷ [];
+  prelude = false;
+}
+
+-- the denial stands round the other branch
+abbrev neither : Cond
+neither = cond.All (when (name 0) GreaterEqual (lit 1) ∷ when (name 0) LessEqual (lit 3) ∷ [])
+
+abbrev pub PlacesOfBranches : Type 0
+PlacesOfBranches = places_of branches
+    ≡ record { around = Test either ∷ []; loops = []; assignment = record { op = None; array = record { 0 = 0 }; subs = lit 0 ∷ []; value = Const 7 } }
+    ∷ record {
+      around = Test neither ∷ Loop [] (lit 0) Less (name 0) ∷ Test joined_three ∷ [];
+      loops = 0 ∷ [];
+      assignment = record { op = None; array = record { 0 = 0 }; subs = name 1 ∷ []; value = Const 7 };
+    }
+    ∷ []
+
+-- comparisons that are joined have rows; alternatives, remainders and "!=" have none
+abbrev pub RowsOfBranches : Type 0
+RowsOfBranches =
+    (condition_rows 1 (Test either ∷ Test (cond.Divides (name 0) (pos 2) true) ∷ []) ≡ [])
+    × (condition_rows 1 (Test neither ∷ Loop [] (lit 0) Less (name 0) ∷ Test joined_three ∷ [])
+    ≡ row (pos 1 ∷ pos 0 ∷ []) (negsuc 0) ∷ row (negsuc 0 ∷ pos 0 ∷ []) (pos 3) ∷ row (pos 1 ∷ pos 0 ∷ []) (negsuc 1) ∷ [])

@@ -2,6 +2,7 @@
 use Rattle.std.specs.Prelude.{ℕ, suc, ◌+◌, List, [], ◌∷◌, ◌++◌, map}
 use Rattle.affc_ast.specs.declared.tree.Program.{Program}
 use Rattle.affc_ast.specs.declared.tree.Stmt.TheOpen.{Stmt-F, For, If, Assign, Block}
+use Rattle.affc_ast.specs.Denials.{denied}
 use Rattle.affc_ast.specs.Recursion.{by_stmt}
 use Rattle.affc_ast.specs.Trace.{Assignment}
 use Rattle.affc_domain.specs.Rounds.{Round, Loop, Test}
@@ -38,7 +39,11 @@ walked_step (For iter low rel high body) = record {
   loops = suc (loops_of body);
   places = λ around numbers first. in_turn body (around ++ Loop iter low rel high ∷ []) (numbers ++ first ∷ []) (suc first);
 }
-walked_step (If conds body) = record { loops = loops_of body; places = λ around numbers first. in_turn body (around ++ Test conds ∷ []) numbers first }
+walked_step (If cond body other) = record {
+  loops = loops_of body + loops_of other;
+  places = λ around numbers first.
+      in_turn body (around ++ Test cond ∷ []) numbers first ++ in_turn other (around ++ Test (denied cond) ∷ []) numbers (first + loops_of body);
+}
 walked_step (Assign op array subs value) = record {
   loops = 0;
   places = λ around numbers first. record { around = around; loops = numbers; assignment = record { op = op; array = array; subs = subs; value = value } } ∷ [];

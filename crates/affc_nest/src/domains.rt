@@ -1,40 +1,45 @@
 //! The rows of a domain, put into a system one after the other.
-ghost use Rattle.std.specs.Prelude.{◌≡◌, ◌+◌, ◌*◌, ◌^◌, ◌<◌, ◌≤◌, [], length, unsigned_abs, IsTrue, IfOk, OnOk};
+ghost use Rattle.std.specs.Prelude.{◌≡◌, ◌+◌, ◌*◌, ◌^◌, ◌<◌, ◌≤◌, [], length, map, unsigned_abs, IsTrue, IfOk, OnOk};
+ghost use Rattle.affc_ast.specs.Fits.{all_true};
+ghost use Rattle.affc_ast.specs.Joined.{tests_of};
+ghost use Rattle.affc_ast.specs.Pieces.{added, comparisons_of};
 ghost use Rattle.affc_domain.specs.Affine.{form_of};
-ghost use Rattle.affc_domain.specs.Plain.{is_plain, plain_tests};
+ghost use Rattle.affc_domain.specs.Plain.{is_plain, plain_cond, plain_tests};
 ghost use Rattle.affc_domain.specs.Rounds.{loops_in, comparisons_in};
 ghost use Rattle.affc_nest.specs.Domains.{compare_rows, test_rows, bounds_of, range_rows, box_rows, loop_rows, condition_rows, domain_rows, with_rows};
-ghost use Rattle.affc_nest.specs.Frames.{all_seen, plain_at};
+ghost use Rattle.affc_nest.specs.Frames.{denied_if, opposite_if, tests_of_each, all_seen, plain_at};
 ghost use Rattle.affc_nest.specs.Sides.{NearRanges};
 
 use crate::forms::form_over;
 use crate::frames::Frame;
 use crate::rows::{add_compare, add_gap};
-use affc_ast::tree::{Compare, Ix, Rel};
+use affc_ast::tree::{Compare, Cond, Ix, Rel};
 use affc_rows::Form;
 use affc_system::{BoxOf, System};
 use std::alloc::{AllocError, Global};
 
-/// Adds the rows of a condition.
+/// Adds the rows of a comparison.
 fn add_test(
     alloc: Global,
     system: &mut System,
     names: u32,
     more: u32,
-    cond: &Compare,
+    rel: Rel,
+    left: &Ix,
+    right: &Ix,
 ) -> Result<(), AllocError>
-    requires left { IsTrue (is_plain names cond.now.left) }
-    requires right { IsTrue (is_plain names cond.now.right) }
+    requires left { IsTrue (is_plain names left.now) }
+    requires right { IsTrue (is_plain names right.now) }
     requires columns { system.old.columns ≡ names + more }
     requires room { length system.old.rows + 1 < 1024 }
-    ensures { OnOk result (system.new ≡ with_rows system.old (compare_rows cond.now.rel (form_of names more cond.now.left) (form_of names more cond.now.right))) }
+    ensures { OnOk result (system.new ≡ with_rows system.old (compare_rows rel (form_of names more left.now) (form_of names more right.now))) }
 {
-    let left = form_over(alloc, names, more, &cond.left)?;
-    let right = form_over(alloc, names, more, &cond.right)?;
-    add_compare(alloc, system, cond.rel, &left, &right)
+    let left = form_over(alloc, names, more, left)?;
+    let right = form_over(alloc, names, more, right)?;
+    add_compare(alloc, system, rel, &left, &right)
 }
 
-/// Adds the rows of conditions over so many names in sight, and columns that they don't see.
+/// Adds the rows of comparisons over so many names in sight, and columns that they don't see.
 #[tactic(auto, using(crate::proofs::RowLemmas::few_tests))]
 pub(crate) fn add_tests(
     alloc: Global,
@@ -52,10 +57,116 @@ pub(crate) fn add_tests(
     match conds {
         [] => Ok(()),
         [cond, rest @ ..] => {
-            add_test(alloc, system, names, more, cond)?;
+            add_test(
+                alloc,
+                system,
+                names,
+                more,
+                cond.rel,
+                &cond.left,
+                &cond.right,
+            )?;
             add_tests(alloc, system, names, more, rest)
         }
     }
+}
+
+/// The relation, or its opposite.
+pub fn relation(rel: Rel, is_denied: bool) -> Rel
+    ensures { result ≡ opposite_if is_denied rel }
+{
+    if !is_denied {
+        return rel;
+    }
+    match rel {
+        Rel::Less => Rel::GreaterEqual,
+        Rel::LessEqual => Rel::Greater,
+        Rel::Greater => Rel::LessEqual,
+        Rel::GreaterEqual => Rel::Less,
+        Rel::Equal => Rel::NotEqual,
+        Rel::NotEqual => Rel::Equal,
+    }
+}
+
+/// Adds the rows of the comparisons that are joined in a condition, or in its denial.
+#[cycle(conds)]
+fn add_cond(
+    alloc: Global,
+    system: &mut System,
+    names: u32,
+    more: u32,
+    cond: &Cond,
+    is_denied: bool,
+) -> Result<(), AllocError>
+    requires plain { IsTrue (plain_cond names cond.now) }
+    requires columns { system.old.columns ≡ names + more }
+    requires room { length system.old.rows + 2 * comparisons_of cond.now < 1024 }
+    ensures value { OnOk result (system.new ≡ with_rows system.old (test_rows names more (tests_of (denied_if is_denied cond.now)))) }
+    ensures grows { OnOk result (length system.new.rows ≤ length system.old.rows + 2 * comparisons_of cond.now) }
+{
+    match cond {
+        Cond::Compare { rel, left, right } => {
+            let rel = relation(*rel, is_denied);
+            add_test(alloc, system, names, more, rel, left, right)
+        }
+        Cond::All(conds) => {
+            if is_denied {
+                return Ok(());
+            }
+            add_conds(alloc, system, names, more, conds.as_slice(), false)
+        }
+        Cond::Any(conds) => {
+            if !is_denied {
+                return Ok(());
+            }
+            add_conds(alloc, system, names, more, conds.as_slice(), true)
+        }
+        Cond::Divides {
+            value: _,
+            by: _,
+            yes: _,
+        } => Ok(()),
+    }
+}
+
+/// The same for conditions one after the other.
+#[cycle(conds)]
+fn add_conds(
+    alloc: Global,
+    system: &mut System,
+    names: u32,
+    more: u32,
+    conds: &[Cond],
+    is_denied: bool,
+) -> Result<(), AllocError>
+    requires plain { IsTrue (all_true (map (plain_cond names) conds.now)) }
+    requires columns { system.old.columns ≡ names + more }
+    requires room { length system.old.rows + 2 * added (map comparisons_of conds.now) < 1024 }
+    ensures value { OnOk result (system.new ≡ with_rows system.old (test_rows names more (tests_of_each is_denied conds.now))) }
+    ensures grows { OnOk result (length system.new.rows ≤ length system.old.rows + 2 * added (map comparisons_of conds.now)) }
+{
+    for cond in conds {
+        add_cond(alloc, system, names, more, cond, is_denied)?;
+    }
+    Ok(())
+}
+
+/// Adds the rows of a condition that stands round a statement, or of its denial.
+fn add_condition(
+    alloc: Global,
+    system: &mut System,
+    names: u32,
+    more: u32,
+    cond: &Cond,
+    is_denied: bool,
+) -> Result<(), AllocError>
+    requires plain { IsTrue (plain_cond names (denied_if is_denied cond.now)) }
+    requires columns { system.old.columns ≡ names + more }
+    requires room { length system.old.rows + 2 * comparisons_of (denied_if is_denied cond.now) < 1024 }
+    ensures value { OnOk result (system.new ≡ with_rows system.old (test_rows names more (tests_of (denied_if is_denied cond.now)))) }
+    ensures grows { OnOk result (length system.new.rows ≤ length system.old.rows + 2 * comparisons_of (denied_if is_denied cond.now)) }
+{
+    add_cond(alloc, system, names, more, cond, is_denied)
 }
 
 /// Adds the two rows of a column's range.
@@ -145,7 +256,10 @@ pub(crate) fn add_loops(
     match frames {
         [] => Ok(()),
         [frame, rest @ ..] => match frame {
-            Frame::Test(_) => add_loops(alloc, system, names, ranges, rest),
+            Frame::Test {
+                cond: _,
+                is_denied: _,
+            } => add_loops(alloc, system, names, ranges, rest),
             Frame::Loop {
                 iter: _,
                 low,
@@ -181,9 +295,9 @@ pub(crate) fn add_conditions(
     match frames {
         [] => Ok(()),
         [frame, rest @ ..] => match frame {
-            Frame::Test(conds) => {
+            Frame::Test { cond, is_denied } => {
                 let more = system.columns() - names;
-                add_tests(alloc, system, names, more, conds)?;
+                add_condition(alloc, system, names, more, cond, *is_denied)?;
                 add_conditions(alloc, system, names, rest)
             }
             Frame::Loop {
@@ -204,7 +318,10 @@ pub(crate) fn count_loops(frames: &[Frame<'_>]) -> u32
     match frames {
         [] => 0,
         [frame, rest @ ..] => match frame {
-            Frame::Test(_) => count_loops(rest),
+            Frame::Test {
+                cond: _,
+                is_denied: _,
+            } => count_loops(rest),
             Frame::Loop {
                 iter: _,
                 low: _,

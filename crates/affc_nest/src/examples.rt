@@ -1,5 +1,5 @@
 //! The nests of small programs, as laws: `specs/Examples.antt` says each, with rows that were found by hand.
-ghost use Rattle.affc_nest.specs.Examples.{TriangleNest, TriangleExtents, TriangleBounds, SieveNest, SieveExtents, SieveBounds, OnePointNest, OnePointAsksNothing, SixLoopsNest, SixLoopsExtents, SixLoopsBounds};
+ghost use Rattle.affc_nest.specs.Examples.{TriangleNest, TriangleExtents, TriangleBounds, SieveNest, SieveExtents, SieveBounds, OnePointNest, OnePointAsksNothing, SixLoopsNest, SixLoopsExtents, SixLoopsBounds, PlacesOfBranches, RowsOfBranches};
 
 /// A triangle under a condition, at one value of the parameter, and a loop that is never entered.
 pub fn triangle()
@@ -27,4 +27,10 @@ pub fn six_loops()
     ensures nest { SixLoopsNest }
     ensures extents { SixLoopsExtents }
     ensures bounds { SixLoopsBounds }
+{}
+
+/// Conditions that are not only joined comparisons, and an `else`.
+pub fn branches()
+    ensures places { PlacesOfBranches }
+    ensures rows { RowsOfBranches }
 {}

@@ -1,9 +1,9 @@
 //! What stands round a statement.
 
 use affc_ast::text::Text;
-use affc_ast::tree::{Compare, Ix, Rel};
+use affc_ast::tree::{Cond, Ix, Rel};
 
-/// A loop, by its iterator and its bounds, or the conditions of an `if`.
+/// A loop, by its iterator and its bounds, or the condition of an `if`, which is denied round the other branch.
 #[derive(Clone, Copy, Drop)]
 pub enum Frame<'a> {
     Loop {
@@ -12,5 +12,8 @@ pub enum Frame<'a> {
         rel: Rel,
         high: &'a Ix,
     },
-    Test(&'a [Compare]),
+    Test {
+        cond: &'a Cond,
+        is_denied: bool,
+    },
 }

@@ -19,6 +19,7 @@ pub mod rows;
 mod sites;
 
 pub use divisions::Division;
+pub use domains::relation;
 pub use extraction::{Extracted, all_sites, extract, extract_any};
 pub use frames::Frame;
 pub use nest::{Access, ArrayInfo, Entry, Nest, NestFault};

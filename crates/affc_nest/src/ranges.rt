@@ -58,6 +58,7 @@ fn last(rel: Rel, high: i128) -> i128
         Rel::Greater => high,
         Rel::GreaterEqual => high,
         Rel::Equal => high,
+        Rel::NotEqual => high,
     }
 }
 
@@ -131,7 +132,10 @@ pub(crate) fn fits(
     match frames {
         [] => Ok(Fit::Near),
         [frame, rest @ ..] => match frame {
-            Frame::Test(_) => fits(alloc, all, own, rest, depth),
+            Frame::Test {
+                cond: _,
+                is_denied: _,
+            } => fits(alloc, all, own, rest, depth),
             Frame::Loop {
                 iter: _,
                 low,

@@ -49,5 +49,6 @@ pub fn add_compare(
             add_gap(alloc, system, b, a, 0)?;
             add_gap(alloc, system, a, b, 0)
         }
+        Rel::NotEqual => Ok(()),
     }
 }

@@ -1,11 +1,12 @@
 //! A walk over statements that comes to each assignment, in the order of the text.
 ghost use Rattle.std.specs.Prelude.{◌≡◌, ◌+◌, ◌++◌, ◌∷◌, [], map, IfOk, OnOk};
 ghost use Rattle.affc_ast.specs.Recursion.{by_stmt};
-ghost use Rattle.affc_nest.specs.Frames.{seen, all_seen};
+ghost use Rattle.affc_domain.specs.Rounds.{Test};
+ghost use Rattle.affc_nest.specs.Frames.{denied_if, seen, all_seen};
 ghost use Rattle.affc_nest.specs.Sites.{place, places, loops_of, in_turn, walked_step};
 
 use crate::frames::Frame;
-use affc_ast::tree::{ArrayId, Ix, Op, Stmt, Val};
+use affc_ast::tree::{ArrayId, Cond, Ix, Op, Stmt, Val};
 use std::alloc::{AllocError, Global};
 
 /// An assignment, what stands round it from outer to inner, and the numbers of the loops among that.
@@ -31,6 +32,18 @@ fn with_frame<'a>(
     let mut inside = Vec::from_slice(alloc, frames)?;
     inside.push(frame)?;
     Ok(inside)
+}
+
+/// The frames with a condition more inside, or its denial.
+fn with_test<'a>(
+    alloc: Global,
+    frames: &[Frame<'a>],
+    cond: &'a Cond,
+    is_denied: bool,
+) -> Result<Vec<Frame<'a>>, AllocError>
+    ensures { IfOk result (λ v. all_seen v.items ≡ all_seen frames.now ++ Test (denied_if is_denied cond.now) ∷ []) }
+{
+    with_frame(alloc, frames, Frame::Test { cond, is_denied })
 }
 
 /// The numbers of loops with one more.
@@ -89,9 +102,18 @@ fn walk<'a>(
             )?;
             Ok(end)
         }
-        Stmt::If { conds, body } => {
-            let around = with_frame(alloc, frames, Frame::Test(conds.as_slice()))?;
-            let end = walk_all(alloc, body.as_slice(), around.as_slice(), loops, next, out)?;
+        Stmt::If { cond, body, other } => {
+            let under = with_test(alloc, frames, cond, false)?;
+            let middle = walk_all(alloc, body.as_slice(), under.as_slice(), loops, next, out)?;
+            let beside = with_test(alloc, frames, cond, true)?;
+            let end = walk_all(
+                alloc,
+                other.as_slice(),
+                beside.as_slice(),
+                loops,
+                middle,
+                out,
+            )?;
             Ok(end)
         }
         Stmt::Assign {

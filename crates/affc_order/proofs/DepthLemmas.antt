@@ -15,7 +15,7 @@ use Rattle.affc_trace.specs.declared.schedule.TimeMap.{TimeMap}
 use Rattle.affc_trace.specs.Target.{each_round, loops_step, loops_round, numbers_in, all_slight, maps_within, within_limits, IsMapOf, IsScheduleOf}
 use Rattle.affc_trace.proofs.LastStores.{map_append}
 use Rattle.affc_trace.proofs.Ordered.{map_of}
-use Rattle.affc_domain.specs.Loops.{numbered_step, in_text_order, loop_numbers}
+use Rattle.affc_domain.specs.Loops.{all_loops, numbered_step, in_text_order, loop_numbers}
 use Rattle.affc_domain.proofs.Lists.{both_true, to_mapped, there_is}
 use Rattle.affc_domain.proofs.RangeLemmas.{numbers_are}
 use Rattle.affc_nest.specs.declared.nest.Entry.{Entry}
@@ -41,7 +41,11 @@ mutual
   depths_are : (x : Stmt) (depth first : ℕ) → by_stmt loops_step x depth ≡ map (λ ls. depth + length ls) ((by_stmt numbered_step x).numbers first)
   depths_are (s.For' iter low rel high shape body) depth first =
       row_depths_are body (suc depth) (suc first) ∙ under_loop first depth (in_text_order (by_each numbered_step body) (suc first))
-  depths_are (s.If' conds shape body) depth first = row_depths_are body depth first
+  depths_are (s.If' cond shape body shape' other) depth first =
+      let next = first + all_loops (by_each numbered_step body) in
+      ap (λ ns. ns ++ each_round (by_each loops_step other) depth) (row_depths_are body depth first)
+      ∙ ap (λ ns. map (λ ls. depth + length ls) (in_text_order (by_each numbered_step body) first) ++ ns) (row_depths_are other depth next)
+      ∙ sym (map_append (λ ls. depth + length ls) (in_text_order (by_each numbered_step body) first) (in_text_order (by_each numbered_step other) next))
   depths_are (s.Assign op array subs value) depth first = ap (λ n. n ∷ []) (alone depth)
   depths_are (s.Block' locals shape body) depth first = row_depths_are body depth first
 

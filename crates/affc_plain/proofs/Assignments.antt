@@ -5,9 +5,9 @@ use Rattle.affc_ast.specs.declared.tree.Stmt.{Stmt}
 use Rattle.affc_ast.specs.Recursion.{by_stmt}
 use Rattle.affc_ast.specs.Trace.{Assignment, joined, assignments_step}
 use Rattle.affc_ast.proofs.Steps.{for_here, if_here, block_here}
-use Rattle.affc_grammar.specs.Draft.{StmtsDraft, no_stmts, and_stmt, StmtDraft, for_loop, if_all, assign, block}
-use Rattle.affc_grammar.specs.Names.{Scope, each, with_number, array_named, ix_tree, compare_tree, value_tree, locals_tree, head_tree, stmts_tree, stmt_tree}
-use Rattle.affc_grammar.specs.Limits.{assigned, assigned_in}
+use Rattle.affc_grammar.specs.Draft.{StmtsDraft, no_stmts, and_stmt, StmtDraft, for_loop, if_cond, assign, block}
+use Rattle.affc_grammar.specs.Names.{Scope, each, with_number, array_named, ix_tree, cond_tree, value_tree, locals_tree, head_tree, stmts_tree, stmt_tree}
+use Rattle.affc_grammar.specs.Limits.{Round, under_body, under_other, assigned, assigned_in}
 use Rattle.affc_plain.proofs.Forms.{then_ok}
 use Rattle.affc_plain.proofs.Expressions.{ok_of}
 
@@ -18,14 +18,14 @@ joined_map : (xs : List Stmt) → joined (map step xs) ≡ flat_map step xs
 joined_map [] = refl
 joined_map (x ∷ xs) = ap (λ t. step x ++ t) (joined_map xs)
 
-abbrev SameAll : (n : ℕ) → StmtsDraft → List Stmt → Type 0
+abbrev SameAll : (n : Round) → StmtsDraft → List Stmt → Type 0
 SameAll n d xs = length (flat_map step xs) ≡ length (assigned n d)
 
-abbrev SameOne : (n : ℕ) → StmtDraft → Stmt → Type 0
+abbrev SameOne : (n : Round) → StmtDraft → Stmt → Type 0
 SameOne n d x = length (step x) ≡ length (assigned_in n d)
 
 mutual
-  pub stmts_counted : (n : ℕ) (scope : Scope) (d : StmtsDraft) (xs : List Stmt) → stmts_tree scope d ≡ Ok xs → length (flat_map (by_stmt assignments_step) xs) ≡ length (assigned n d)
+  pub stmts_counted : (n : Round) (scope : Scope) (d : StmtsDraft) (xs : List Stmt) → stmts_tree scope d ≡ Ok xs → length (flat_map (by_stmt assignments_step) xs) ≡ length (assigned n d)
   stmts_counted n scope no_stmts xs t = subst (SameAll n no_stmts) (ok_of t) refl
   stmts_counted n scope (and_stmt ss s) xs t =
       let r = then_ok (stmts_tree scope ss) _ xs t in
@@ -40,16 +40,22 @@ mutual
       sum : (a b c d e : ℕ) → b ≡ c + 0 → a ≡ d → c ≡ e → a + b ≡ d + e
       sum a b c d e f g h = omega (arith, f, g, h)
 
-  stmt_counted : (n : ℕ) (scope : Scope) (d : StmtDraft) (x : Stmt) → stmt_tree scope d ≡ Ok x → length (by_stmt assignments_step x) ≡ length (assigned_in n d)
+  stmt_counted : (n : Round) (scope : Scope) (d : StmtDraft) (x : Stmt) → stmt_tree scope d ≡ Ok x → length (by_stmt assignments_step x) ≡ length (assigned_in n d)
   stmt_counted n scope (for_loop h body) x t =
       let inside : Scope = with_number true scope h.iterator.name in
       let r = then_ok (head_tree scope h) _ x t in
       let q = then_ok (stmts_tree inside body) _ x r.2 in
       subst (SameOne n (for_loop h body)) (ok_of q.2) (ap length (for_here assignments_step h.iterator.name r.0.0 h.rel r.0.1 q.0 ∙ joined_map q.0) ∙ stmts_counted n inside body q.0 q.1)
-  stmt_counted n scope (if_all at cs body) x t =
-      let r = then_ok (each (compare_tree scope) cs) _ x t in
+  stmt_counted n scope (if_cond at c body other) x t =
+      let r = then_ok (cond_tree scope c) _ x t in
       let q = then_ok (stmts_tree scope body) _ x r.2 in
-      subst (SameOne n (if_all at cs body)) (ok_of q.2) (ap length (if_here assignments_step r.0 q.0 ∙ joined_map q.0) ∙ stmts_counted (n + length cs) scope body q.0 q.1)
+      let o = then_ok (stmts_tree scope other) _ x q.2 in
+      subst (SameOne n (if_cond at c body other)) (ok_of o.2)
+      (ap length (if_here assignments_step r.0 q.0 o.0)
+      ∙ length-append (joined (map step q.0)) (joined (map step o.0))
+      ∙ ap (λ k. k + length (joined (map step o.0))) (ap length (joined_map q.0) ∙ stmts_counted (under_body c n) scope body q.0 q.1)
+      ∙ ap (λ k. length (assigned (under_body c n) body) + k) (ap length (joined_map o.0) ∙ stmts_counted (under_other c n) scope other o.0 o.1)
+      ∙ sym (length-append (assigned (under_body c n) body) (assigned (under_other c n) other)))
   stmt_counted n scope (assign w subs None v) x t =
       let r = then_ok (array_named scope w.at w.name true (length subs)) _ x t in
       let q = then_ok (each (ix_tree scope) subs) _ x r.2 in

@@ -6,6 +6,7 @@ use Rattle.affc_ast.specs.declared.tree.Ix.{Ix}
 use Rattle.affc_ast.specs.declared.tree.Op.{Op}
 use Rattle.affc_ast.specs.declared.tree.Val.{Val}
 use Rattle.affc_ast.specs.declared.tree.Val.TheVariants as val
+use Rattle.affc_ast.specs.Joined.{is_ordered}
 use Rattle.affc_ast.proofs.Steps.{not_here, bin_here, shift_here}
 use Rattle.affc_grammar.specs.declared.fault.NameWhy.{NameWhy}
 use Rattle.affc_grammar.specs.Draft.{IxDraft, CompareDraft, ValueDraft, load, constant, cast, complement, binary, shift}
@@ -28,6 +29,11 @@ pub record IsFine (d : IxDraft) : Type 0 where
 abbrev pub AllFine : List IxDraft → Type 0
 AllFine [] = Unit {0}
 AllFine (d ∷ ds) = IsFine d × AllFine ds
+
+-- comparisons without "!="
+abbrev pub AreOrdered : List CompareDraft → Type 0
+AreOrdered [] = Unit {0}
+AreOrdered (c ∷ cs) = (is_ordered c.rel ≡ true) × AreOrdered cs
 
 pub fine_parts : (xs ys : List IxDraft) → AllFine (xs ++ ys) → AllFine xs × AllFine ys
 fine_parts [] ys h = (tt, h)
@@ -64,16 +70,19 @@ module _ (scope : Scope) (n : ℕ) (numbers : HasNumbers scope n) where
       let q = then_ok (each (ix_tree scope) ds) _ es r.2 in
       ap (all_plain n) (sym (ok_of q.2)) ∙ hold_both (is_plain n r.0) (all_plain n q.0) (ix_plain d r.0 r.1 f.0) (list_plain ds q.0 q.1 f.1)
 
-  pub tests_plain : (cs : List CompareDraft) (ys : List Compare) → each (compare_tree scope) cs ≡ Ok ys → AllFine (flat_map sides cs) → plain_tests n ys ≡ true
-  tests_plain [] ys t f = ap (plain_tests n) (sym (ok_of t))
-  tests_plain (c ∷ cs) ys t f =
+  pub tests_plain : (cs : List CompareDraft) (ys : List Compare) → each (compare_tree scope) cs ≡ Ok ys → AllFine (flat_map sides cs) → AreOrdered cs → plain_tests n ys ≡ true
+  tests_plain [] ys t f o = ap (plain_tests n) (sym (ok_of t))
+  tests_plain (c ∷ cs) ys t f o =
       let r = then_ok (compare_tree scope c) _ ys t in
       let q = then_ok (each (compare_tree scope) cs) _ ys r.2 in
       let a = then_ok (ix_tree scope c.left) _ r.0 r.1 in
       let b = then_ok (ix_tree scope c.right) _ r.0 a.2 in
       let l : is_plain n r.0.left ≡ true = ap (λ (y : Compare). is_plain n y.left) (sym (ok_of b.2)) ∙ ix_plain c.left a.0 a.1 f.0 in
       let m : is_plain n r.0.right ≡ true = ap (λ (y : Compare). is_plain n y.right) (sym (ok_of b.2)) ∙ ix_plain c.right b.0 b.1 f.1.0 in
-      ap (plain_tests n) (sym (ok_of q.2)) ∙ hold_both (is_plain n r.0.left) (is_plain n r.0.right && plain_tests n q.0) l (hold_both (is_plain n r.0.right) (plain_tests n q.0) m (tests_plain cs q.0 q.1 f.1.1))
+      let k : is_ordered r.0.rel ≡ true = ap (λ (y : Compare). is_ordered y.rel) (sym (ok_of b.2)) ∙ o.0 in
+      ap (plain_tests n) (sym (ok_of q.2))
+      ∙ hold_both (is_plain n r.0.left) (is_plain n r.0.right && (is_ordered r.0.rel && plain_tests n q.0)) l
+      (hold_both (is_plain n r.0.right) (is_ordered r.0.rel && plain_tests n q.0) m (hold_both (is_ordered r.0.rel) (plain_tests n q.0) k (tests_plain cs q.0 q.1 f.1.1 o.1)))
 
   pub value_plain : (v : ValueDraft) (x : Val) → value_tree scope v ≡ Ok x → AllFine (value_texts v) → plain_value x n ≡ true
   value_plain (load at w subs) x t f =

@@ -3,13 +3,14 @@ use Rattle.std.proofs.Common.{◌≡◌, ℕ, ◌+◌, Bool, true, false, List, 
 use Rattle.std.proofs.lemmas.Grind.{flat_map-append}
 use Rattle.std.proofs.lemmas.Bool.{false≢true}
 use Rattle.affc_grammar.specs.Grammar as g
-use Rattle.affc_grammar.specs.Grammar.{IxText, TermText, FactorText, AtomText, DimsText, CondsText, CondText, ValueText, LocalsText, StmtsText, StmtText, SimpleText, BodyText, ParamText, ParamsText, NamesText, DeclsText}
-use Rattle.affc_grammar.specs.Draft.{IxDraft, DeclDraft, ix_draft, term_draft, factor_draft, atom_draft, dims_draft, conds_draft, cond_draft, value_draft, bound_rel, stmts_draft, stmt_draft, simple_draft, body_draft, param_draft, params_draft, names_draft, decls_draft}
-use Rattle.affc_grammar.specs.Limits.{sides, value_texts, stmts_texts, stmt_texts, param_texts, products_in, large_parts}
+use Rattle.affc_grammar.specs.Grammar.{IxText, TermText, FactorText, AtomText, DimsText, CondText, AllText, PrimText, ValueText, LocalsText, StmtsText, StmtText, SimpleText, BodyText, ParamText, ParamsText, NamesText, DeclsText}
+use Rattle.affc_grammar.specs.Draft.{IxDraft, CondsDraft, no_conds, and_cond, CondDraft, comparison, divisible, all_of, any_of, DeclDraft, ix_draft, term_draft, factor_draft, atom_draft, dims_draft, and_conds, conjuncts, disjuncts, cond_draft, all_draft, prim_draft, value_draft, bound_rel, stmts_draft, stmt_draft, simple_draft, body_draft, param_draft, params_draft, names_draft, decls_draft}
+use Rattle.affc_grammar.specs.Limits.{conds_texts, cond_texts, value_texts, stmts_texts, stmt_texts, param_texts, products_in, large_parts}
 use Rattle.affc_domain.specs.Plain.{is_upward}
 use Rattle.affc_plain.proofs.Lists.{no_append}
 use Rattle.affc_plain.proofs.Forms.{HasNoCalls}
 use Rattle.affc_plain.proofs.Expressions.{AllFine}
+use Rattle.affc_plain.proofs.Conditions.{AreBareConds, IsBareCond}
 use Rattle.affc_plain.proofs.Statements.{AreBare, IsBare}
 
 abbrev pub NoCalls : List IxDraft → Type 0
@@ -52,15 +53,53 @@ dims_calls : (at : ℕ) (ds : DimsText false) → NoCalls (dims_draft at ds)
 dims_calls at g.no_dims = tt
 dims_calls at (g.and_dim ds a) = calls_both (dims_draft at ds) _ (dims_calls at ds) (ix_calls _ a, tt)
 
-mutual
-  conds_calls : (at : ℕ) (cs : CondsText false) → NoCalls (flat_map sides (conds_draft at cs))
-  conds_calls at (g.cond c) = cond_calls at c
-  conds_calls at (g.and_cond cs c) =
-      subst NoCalls (sym (flat_map-append sides (conds_draft at cs) _)) (calls_both (flat_map sides (conds_draft at cs)) _ (conds_calls at cs) (cond_calls _ c))
+-- ---- Conditions
 
-  cond_calls : (at : ℕ) (c : CondText false) → NoCalls (flat_map sides (cond_draft at c))
-  cond_calls at (g.all_of cs) = conds_calls _ cs
-  cond_calls at (g.compared a rel b) = (ix_calls at a, (ix_calls _ b, tt))
+joined_bare : (cs ds : CondsDraft) → AreBareConds cs → AreBareConds ds → AreBareConds (and_conds cs ds)
+joined_bare cs no_conds h k = h
+joined_bare cs (and_cond ds d) h k = (joined_bare cs ds h k.0, k.1)
+
+conjuncts_bare : (c : CondDraft) → IsBareCond c → AreBareConds (conjuncts c)
+conjuncts_bare (comparison c) h = (tt, h)
+conjuncts_bare (divisible a by_at by so) h = (tt, h)
+conjuncts_bare (all_of cs) h = h
+conjuncts_bare (any_of cs) h = (tt, h)
+
+disjuncts_bare : (c : CondDraft) → IsBareCond c → AreBareConds (disjuncts c)
+disjuncts_bare (comparison c) h = (tt, h)
+disjuncts_bare (divisible a by_at by so) h = (tt, h)
+disjuncts_bare (all_of cs) h = (tt, h)
+disjuncts_bare (any_of cs) h = h
+
+mutual
+  cond_bare : {wide : Bool} (at : ℕ) (c : CondText false wide) → IsBareCond (cond_draft at c)
+  cond_bare at (g.all_of a) = all_bare at a
+  cond_bare at (g.or_all h c a) = joined_bare (disjuncts (cond_draft at c)) _ (disjuncts_bare (cond_draft at c) (cond_bare at c)) (disjuncts_bare _ (all_bare _ a))
+
+  all_bare : {wide : Bool} (at : ℕ) (a : AllText false wide) → IsBareCond (all_draft at a)
+  all_bare at (g.prim q) = prim_bare at q
+  all_bare at (g.and_prim a q) = joined_bare (conjuncts (all_draft at a)) _ (conjuncts_bare (all_draft at a) (all_bare at a)) (conjuncts_bare _ (prim_bare _ q))
+
+  prim_bare : {wide : Bool} (at : ℕ) (q : PrimText false wide) → IsBareCond (prim_draft at q)
+  prim_bare at (g.enclosed c) = cond_bare (at + 1) c
+  prim_bare at (g.compared a rel h b) = (ix_calls at a, ix_calls _ b)
+  prim_bare at (g.divisible h t by k so) = (term_calls at t, k)
+
+mutual
+  conds_calls : (cs : CondsDraft) → AreBareConds cs → NoCalls (conds_texts cs)
+  conds_calls no_conds h = tt
+  conds_calls (and_cond cs c) h = calls_both (conds_texts cs) (cond_texts c) (conds_calls cs h.0) (cond_calls c h.1)
+
+  cond_calls : (c : CondDraft) → IsBareCond c → NoCalls (cond_texts c)
+  cond_calls (comparison c) h = (h.0, (h.1, tt))
+  cond_calls (divisible a by_at by so) h = (h.0, tt)
+  cond_calls (all_of cs) h = conds_calls cs h
+  cond_calls (any_of cs) h = conds_calls cs h
+
+condition_calls : (at : ℕ) (c : CondText false true) → NoCalls (cond_texts (cond_draft at c))
+condition_calls at c = cond_calls (cond_draft at c) (cond_bare at c)
+
+-- ---- Values and statements
 
 value_calls : {n : ℕ} (at : ℕ) (v : ValueText false n) → NoCalls (value_texts (value_draft at v))
 value_calls at (g.complement v) = value_calls _ v
@@ -86,12 +125,14 @@ mutual
   stmt_calls at (g.block g.no_locals ss) = stmts_calls _ ss
   stmt_calls at (g.block (g.and_local h ls w a) ss) = absurd (false≢true h)
 
-  simple_calls : (at : ℕ) (s : SimpleText false) → NoCalls (stmt_texts (simple_draft at s))
+  simple_calls : {dangles : Bool} (at : ℕ) (s : SimpleText false dangles) → NoCalls (stmt_texts (simple_draft at s))
   simple_calls at (g.for_loop iterator low tested strict high step body) = (ix_calls _ low, (ix_calls _ high, body_calls _ body))
-  simple_calls at (g.if_all cs body) = calls_both (flat_map sides (conds_draft (at + 2) cs)) _ (conds_calls (at + 2) cs) (body_calls _ body)
+  simple_calls at (g.if_then c body) = calls_both (cond_texts (cond_draft (at + 2) c) ++ stmts_texts (body_draft _ body)) [] (calls_both (cond_texts (cond_draft (at + 2) c)) _ (condition_calls (at + 2) c) (body_calls _ body)) tt
+  simple_calls at (g.if_else c body other) =
+      calls_both (cond_texts (cond_draft (at + 2) c) ++ stmts_texts (body_draft _ body)) _ (calls_both (cond_texts (cond_draft (at + 2) c)) _ (condition_calls (at + 2) c) (body_calls _ body)) (body_calls _ other)
   simple_calls at (g.assign array subs op v) = calls_both (dims_draft (at + 1) subs) _ (dims_calls (at + 1) subs) (value_calls _ v)
 
-  body_calls : (at : ℕ) (b : BodyText false) → NoCalls (stmts_texts (body_draft at b))
+  body_calls : {dangles : Bool} (at : ℕ) (b : BodyText false dangles) → NoCalls (stmts_texts (body_draft at b))
   body_calls at (g.braces ss) = stmts_calls _ ss
   body_calls at (g.bare s) = simple_calls at s
 
@@ -105,12 +146,13 @@ mutual
   stmt_bare at (g.block g.no_locals ss) = (refl, stmts_bare _ ss)
   stmt_bare at (g.block (g.and_local h ls w a) ss) = absurd (false≢true h)
 
-  simple_bare : (at : ℕ) (s : SimpleText false) → IsBare (simple_draft at s)
+  simple_bare : {dangles : Bool} (at : ℕ) (s : SimpleText false dangles) → IsBare (simple_draft at s)
   simple_bare at (g.for_loop iterator low tested strict high step body) = (bound_up strict, body_bare _ body)
-  simple_bare at (g.if_all cs body) = body_bare _ body
+  simple_bare at (g.if_then c body) = (cond_bare (at + 2) c, body_bare _ body, tt)
+  simple_bare at (g.if_else c body other) = (cond_bare (at + 2) c, body_bare _ body, body_bare _ other)
   simple_bare at (g.assign array subs op v) = tt
 
-  body_bare : (at : ℕ) (b : BodyText false) → AreBare (body_draft at b)
+  body_bare : {dangles : Bool} (at : ℕ) (b : BodyText false dangles) → AreBare (body_draft at b)
   body_bare at (g.braces ss) = stmts_bare _ ss
   body_bare at (g.bare s) = (tt, simple_bare at s)
 

@@ -5,6 +5,7 @@ pub mod Small
 pub mod Scopes
 pub mod NoPrelude
 pub mod Expressions
+pub mod Conditions
 pub mod Statements
 pub mod FromGrammar
 pub mod Full
@@ -13,3 +14,4 @@ pub mod Context
 pub mod Declared
 pub mod NoLocals
 pub mod Programs
+pub mod JoinedTests

@@ -5,10 +5,11 @@ use Rattle.std.proofs.lemmas.Bool.{false≢true}
 use Rattle.affc_ast.specs.declared.tree.Stmt.{Stmt}
 use Rattle.affc_ast.specs.declared.tree.Stmt.TheVariants as s
 use Rattle.affc_ast.specs.declared.tree.Stmt.TheBlock.{Row_of-Stmt, more_of-Stmt, end_of-Stmt}
+use Rattle.affc_ast.specs.Pieces.{comparisons_of}
 use Rattle.affc_ast.specs.Recursion.{by_stmt, by_each}
 use Rattle.affc_trace.specs.Effects.{all_true, plain_step as bare_step}
 use Rattle.affc_trace.proofs.Members.{both_hold, hold_both}
-use Rattle.affc_domain.specs.Plain.{is_plain, plain_tests, is_upward, all_of, plain_step}
+use Rattle.affc_domain.specs.Plain.{is_plain, plain_cond, is_upward, all_of, plain_step}
 use Rattle.affc_domain.specs.Ranges.{number_ranges}
 use Rattle.affc_plain.specs.Laws.{PlainHasNoLocals}
 
@@ -20,7 +21,11 @@ module _ (m : ℕ) where
         let b = both_hold (is_upward rel) _ a.1 in
         let d = both_hold (is_plain (m + k) low) _ b.1 in
         each_bare body (suc k) c (both_hold (is_plain (m + k) high) _ d.1).1
-    one_bare (s.If' conds shape body) k c h = each_bare body k (c + length conds) (both_hold (plain_tests (m + k) conds) _ h).1
+    one_bare (s.If' cond shape body shape' other) k c h =
+        let a = both_hold (plain_cond (m + k) cond) _ h in
+        let n = c + comparisons_of cond in
+        let b = both_hold (all_of (by_each (plain_step m) body) k n) (all_of (by_each (plain_step m) other) k n) a.1 in
+        hold_both (all_true (by_each bare_step body)) (all_true (by_each bare_step other)) (each_bare body k n b.0) (each_bare other k n b.1)
     one_bare (s.Assign op array subs value) k c h = refl
     one_bare (s.Block' [] shape body) k c h = each_bare body k c h
     one_bare (s.Block' (l ∷ ls) shape body) k c h = absurd (false≢true h)

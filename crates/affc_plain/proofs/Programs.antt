@@ -7,11 +7,12 @@ use Rattle.std.proofs.lemmas.List.{length-map}
 use Rattle.affc_lex.specs.Bytes.{same}
 use Rattle.affc_ast.specs.declared.tree.Decl.{Decl}
 use Rattle.affc_ast.specs.declared.tree.Program.{Program}
+use Rattle.affc_ast.specs.Joined.{has_joined_tests}
 use Rattle.affc_grammar.specs.declared.fault.LimitName.{LimitName}
 use Rattle.affc_grammar.specs.Grammar.{Name, LineText, PragmasText, FunctionText, context_calls, Text}
 use Rattle.affc_grammar.specs.Draft.{IxDraft, TextDraft, text_draft}
 use Rattle.affc_grammar.specs.Names.{Thing, function, number, Scope, Checked, function_why, thing_of, with_params, outermost, pragmas_tree, params_tree, temps_tree, stmts_tree, program_tree}
-use Rattle.affc_grammar.specs.Limits.{Limits, limits_of, plain_limits, passes, Passed, passed_at, least, nearer, passed, products_in, large_parts, products_of_names, affine_texts, pragma_texts, param_texts, stmts_texts, Assigned, assigned, number_words, param_decls, ranges_past, contexts_past, loops_past, empty_bodies}
+use Rattle.affc_grammar.specs.Limits.{Limits, limits_of, plain_limits, passes, Passed, passed_at, least, nearer, passed, products_in, large_parts, products_of_names, affine_texts, pragma_texts, param_texts, stmts_texts, divisors_past, no_round, Assigned, assigned, number_words, param_decls, ranges_past, contexts_past, loops_past, empty_bodies}
 use Rattle.affc_grammar.specs.Reads.{TextFault, within_limits, affine, named, tree_of, symbols, has_prelude}
 use Rattle.affc_domain.specs.Plain.{plain_decls, IsPlain}
 use Rattle.affc_domain.specs.Ranges.{number_ranges}
@@ -25,7 +26,7 @@ use Rattle.affc_plain.proofs.Statements.{AreBare, AllWithin, stmts_plain}
 use Rattle.affc_plain.proofs.FromGrammar.{NoCalls, fine_all, stmts_calls, stmts_bare, params_calls, decls_calls, extents_of}
 use Rattle.affc_plain.proofs.Declared.{is_deep, temps_plain, params_behind, params_plain, ranges_plain}
 use Rattle.affc_plain.proofs.NoPrelude.{no_prelude}
-use Rattle.affc_plain.proofs.Context.{lines_free, lines_plain, lines_few}
+use Rattle.affc_plain.proofs.Context.{AreBareLines, lines_bare, lines_calls, lines_plain, lines_few}
 use Rattle.affc_plain.proofs.Full.{stmts_full}
 use Rattle.affc_plain.proofs.Assignments.{stmts_counted}
 
@@ -67,17 +68,20 @@ record Kept (c : TextDraft) : Type 0 where
   words : drop 4 (number_words c.params) ≡ []
   ranges : ranges_past c.pragmas ≡ []
   loops : loops_past 6 0 c.body ≡ []
-  statements : drop 64 (map (λ a. a.at) (assigned 0 c.body)) ≡ []
+  statements : drop 64 (map (λ a. a.at) (assigned no_round c.body)) ≡ []
   bodies : empty_bodies c.body ≡ []
-  accesses : filter (λ (a : Assigned). nat_lt 16 a.accesses) (assigned 0 c.body) ≡ []
+  accesses : filter (λ (a : Assigned). nat_lt 16 a.accesses) (assigned no_round c.body) ≡ []
   dimensions : filter is_deep (param_decls c.params ++ c.temps) ≡ []
   contexts : contexts_past 0 c.pragmas ≡ []
-  comparisons : filter (λ (a : Assigned). passes (Some 32) a.comparisons) (assigned 0 c.body) ≡ []
+  comparisons : filter (λ (a : Assigned). passes (Some 32) a.round.comparisons) (assigned no_round c.body) ≡ []
   parts : flat_map large_parts (affine_texts c) ≡ []
+  divisors : divisors_past 65536 c.body ≡ []
 
 kept : (c : TextDraft) → least (passed plain_limits c) ≡ None → Kept c
 kept c e =
-    let coefficients = no_append _ _ (none_passed (passed plain_limits c) e) in
+    let pieces = no_append _ _ (none_passed (passed plain_limits c) e) in
+    let divisors = no_append _ _ pieces.0 in
+    let coefficients = no_append _ _ divisors.0 in
     let literals = no_append _ _ coefficients.0 in
     let compared = no_append _ _ literals.0 in
     let contexts = no_append _ _ compared.0 in
@@ -98,14 +102,15 @@ kept c e =
       contexts = no_place _ _ contexts.1;
       comparisons = none_mapped _ _ (no_place _ _ compared.1);
       parts = no_place _ _ coefficients.1;
+      divisors = no_place _ _ divisors.1;
     }
 
-within : (as' : List Assigned) → filter (λ (a : Assigned). nat_lt 16 a.accesses) as' ≡ [] → filter (λ (a : Assigned). passes (Some 32) a.comparisons) as' ≡ [] → AllWithin as'
+within : (as' : List Assigned) → filter (λ (a : Assigned). nat_lt 16 a.accesses) as' ≡ [] → filter (λ (a : Assigned). passes (Some 32) a.round.comparisons) as' ≡ [] → AllWithin as'
 within [] e f = tt
 within (a ∷ as') e f =
     let x = filter_none (λ (a : Assigned). nat_lt 16 a.accesses) a as' e in
-    let y = filter_none (λ (a : Assigned). passes (Some 32) a.comparisons) a as' f in
-    (record { accesses = at_most 16 a.accesses x.0; comparisons = at_most 32 a.comparisons y.0 }, within as' x.1 y.1)
+    let y = filter_none (λ (a : Assigned). passes (Some 32) a.round.comparisons) a as' f in
+    (record { accesses = at_most 16 a.accesses x.0; comparisons = at_most 32 a.round.comparisons y.0 }, within as' x.1 y.1)
 
 -- ---- The tree's parts
 
@@ -139,7 +144,7 @@ tree_parts c p e =
 
 -- no index expression of a draft has calls, and its statements are bare
 record DraftIsBare (c : TextDraft) : Type 0 where
-  lines : NoCalls (flat_map pragma_texts c.pragmas)
+  lines : AreBareLines c.pragmas
   params : NoCalls (flat_map param_texts c.params)
   temps : NoCalls (flat_map extents_of c.temps)
   body : NoCalls (stmts_texts c.body)
@@ -164,14 +169,14 @@ all_fine c products large b =
     let l3 = split large_parts ((lines ++ params) ++ temps) body large in
     let l2 = split large_parts (lines ++ params) temps l3.0 in
     let l1 = split large_parts lines params l2.0 in
-    record { lines = fine_all lines b.lines p1.0 l1.0; params = fine_all params b.params p1.1 l1.1; temps = fine_all temps b.temps p2.1 l2.1; body = fine_all body b.body p3.1 l3.1 }
+    record { lines = fine_all lines (lines_calls c.pragmas b.lines) p1.0 l1.0; params = fine_all params b.params p1.1 l1.1; temps = fine_all temps b.temps p2.1 l2.1; body = fine_all body b.body p3.1 l3.1 }
   where
     split : (f : IxDraft → List ℕ) (xs ys : List IxDraft) → flat_map f (xs ++ ys) ≡ [] → (flat_map f xs ≡ []) × (flat_map f ys ≡ [])
     split f xs ys e = no_append (flat_map f xs) (flat_map f ys) (sym (flat_map-append f xs ys) ∙ e)
 
 -- of a draft without calls and without locals that keeps the limits
-draft_plain : (c : TextDraft) (p : Program) → program_tree c ≡ Ok p → products_of_names c ≡ [] → least (passed plain_limits c) ≡ None → DraftIsBare c → IsPlain p
-draft_plain c p e products limits bare =
+draft_plain : (c : TextDraft) (p : Program) → program_tree c ≡ Ok p → products_of_names c ≡ [] → least (passed plain_limits c) ≡ None → DraftIsBare c → IsTrue (has_joined_tests p) → IsPlain p
+draft_plain c p e products limits bare joined =
     let t = tree_parts c p e in
     let k = kept c limits in
     let f = all_fine c products k.parts bare in
@@ -186,13 +191,14 @@ draft_plain c p e products limits bare =
       few_numbers = few (length (number_words c.params)) m 4 behind.words (few_left 4 (number_words c.params) k.words);
       ranges = ranges_plain c.pragmas k.ranges (outermost c) c.params p.params t.params;
       few_conditions = few (0 + length p.context) (length p.context) 16 (start (length p.context)) (lines_few inside 0 (omega arith) [] c.pragmas p.context t.context k.contexts);
-      context = lines_plain inside m counts.numbers [] c.pragmas p.context t.context f.lines;
+      context = lines_plain inside m counts.numbers [] c.pragmas p.context t.context f.lines bare.lines;
       arrays = params_plain c.pragmas m (outermost c) 0 (outside_counts c) c.params p.params t.params counts.numbers f.params deep.0;
       temps = ap (plain_decls m) (sym t.same_temps) ∙ own.1;
-      body = stmts_plain m 0 0 t.temps_are.1 inner c.body p.body t.body f.body bare.statements k.loops k.bodies (within (assigned 0 c.body) k.accesses k.comparisons);
+      body = stmts_plain m 0 no_round t.temps_are.1 inner c.body p.body t.body f.body bare.statements k.divisors k.loops k.bodies (within (assigned no_round c.body) k.accesses k.comparisons);
       full = (stmts_full t.temps_are.1 c.body p.body t.body bare.statements k.bodies).1;
-      few_assignments = few (length (map (λ a. a.at) (assigned 0 c.body))) _ 64 (length-map (assigned 0 c.body) (λ a. a.at) ∙ sym (stmts_counted 0 t.temps_are.1 c.body p.body t.body))
-          (few_left 64 (map (λ a. a.at) (assigned 0 c.body)) k.statements);
+      tests = joined;
+      few_assignments = few (length (map (λ a. a.at) (assigned no_round c.body))) _ 64 (length-map (assigned no_round c.body) (λ a. a.at) ∙ sym (stmts_counted no_round t.temps_are.1 c.body p.body t.body))
+          (few_left 64 (map (λ a. a.at) (assigned no_round c.body)) k.statements);
     }
   where
     few : (w m most : ℕ) → w ≡ m → w ≤ most → m ≤ most
@@ -220,8 +226,8 @@ tree_kept limits c p e = by (program_tree c) refl (products_of_names c) refl (le
     by (Ok t) f (n ∷ ps) g o h e = absurd (cc)
     by (Err r) f ps g o h e = absurd (cc)
 
-written_plain : (limits : Limits) (c : Text) (p : Program) → tree_of limits (text_draft c) ≡ Ok p → limits ≡ plain_limits → c.has_prelude ≡ false → IsPlain p
-written_plain limits c p e l h = by c.line c.pragmas c.has_prelude c.calls_allowed c.function e h
+written_plain : (limits : Limits) (c : Text) (p : Program) → tree_of limits (text_draft c) ≡ Ok p → limits ≡ plain_limits → c.has_prelude ≡ false → IsTrue (has_joined_tests p) → IsPlain p
+written_plain limits c p e l h joined = by c.line c.pragmas c.has_prelude c.calls_allowed c.function e h
   where
     by : (line : LineText) (ps : PragmasText) (b : Bool) (k : IsTrue (b || not (context_calls ps))) (f : FunctionText b)
         → tree_of limits (text_draft (record { line = line; pragmas = ps; has_prelude = b; calls_allowed = k; function = f })) ≡ Ok p → b ≡ false → IsPlain p
@@ -230,17 +236,17 @@ written_plain limits c p e l h = by c.line c.pragmas c.has_prelude c.calls_allow
         let d : TextDraft = text_draft (record { line = line; pragmas = ps; has_prelude = false; calls_allowed = k; function = f }) in
         let r = tree_kept limits d p e in
         draft_plain d p r.0 r.1 (subst (λ l. least (passed l d) ≡ None) l r.2)
-        (record { lines = lines_free _ ps (none (context_calls ps) k); params = params_calls _ f.params; temps = decls_calls _ f.decls; body = stmts_calls _ f.stmts; statements = stmts_bare _ f.stmts })
+        (record { lines = lines_bare _ ps (none (context_calls ps) k); params = params_calls _ f.params; temps = decls_calls _ f.decls; body = stmts_calls _ f.stmts; statements = stmts_bare _ f.stmts }) joined
       where
         none : (calls : Bool) → not calls ≡ true → calls ≡ false
         none true e = absurd (false≢true e)
         none false e = refl
 
 pub reads_plain : ReadsPlain
-reads_plain text p r plain =
+reads_plain text p r bare =
     let c = r.derives.written in
     let limits = limits_of (has_prelude (symbols r.tokens)) in
     let t = tree_kept limits (text_draft c) p r.derives.its_tree in
-    let h : c.has_prelude ≡ false = sym (tree_parts (text_draft c) p t.0).prelude ∙ plain in
+    let h : c.has_prelude ≡ false = sym (tree_parts (text_draft c) p t.0).prelude ∙ bare.prelude in
     let l : limits ≡ plain_limits = ap limits_of (ap has_prelude r.derives.spelled ∙ no_prelude c h) in
-    written_plain limits c p r.derives.its_tree l h
+    written_plain limits c p r.derives.its_tree l h bare.tests

@@ -26,7 +26,7 @@ names_are (Array decl ∷ ps) = names_are ps
 loops_are : (rs : List Round) → length (iterators_in rs) ≡ loops_in rs
 loops_are [] = refl
 loops_are (Loop iter low rel high ∷ rs) = ap suc (loops_are rs)
-loops_are (Test conds ∷ rs) = loops_are rs
+loops_are (Test cond ∷ rs) = loops_are rs
 
 unmapped : {A B : Type 0} (f : A → B) (xs : List A) (k : ℕ) (y : B) → slice_get (map f xs) k ≡ Some y → (x : A) × (slice_get xs k ≡ Some x) × (f x ≡ y)
 unmapped f [] k y e = absurd (cc)

@@ -8,7 +8,7 @@ use Rattle.affc_system.specs.Systems.{Rows, Meets}
 use Rattle.affc_ast.specs.declared.tree.Compare.{Compare}
 use Rattle.affc_ast.specs.declared.tree.Program.{Program}
 use Rattle.affc_ast.specs.declared.tree.Rel.{Rel}
-use Rattle.affc_ast.specs.declared.tree.Rel.TheVariants.{Less, LessEqual, Greater, GreaterEqual, Equal}
+use Rattle.affc_ast.specs.declared.tree.Rel.TheVariants.{Less, LessEqual, Greater, GreaterEqual, Equal, NotEqual}
 use Rattle.affc_trace.specs.Laws.{IsInContext}
 use Rattle.affc_trace.proofs.EndedReads.{append_assoc}
 use Rattle.affc_trace.proofs.Runs.{length_append}
@@ -33,6 +33,7 @@ compare_count LessEqual a b c d = refl
 compare_count Greater a b c d = refl
 compare_count GreaterEqual a b c d = refl
 compare_count Equal a b c d = refl
+compare_count NotEqual a b c d = refl
 
 tests_count : (names more : ℕ) (cs : List Compare) → length (test_rows names more cs) ≡ length (test_rows names 0 cs)
 tests_count names more [] = refl

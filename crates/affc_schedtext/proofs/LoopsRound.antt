@@ -7,6 +7,7 @@ use Rattle.affc_ast.specs.declared.tree.Program.{Program}
 use Rattle.affc_ast.specs.declared.tree.Stmt.{Stmt}
 use Rattle.affc_ast.specs.declared.tree.Stmt.TheVariants as s
 use Rattle.affc_ast.specs.declared.tree.Stmt.TheBlock.{Row_of-Stmt, more_of-Stmt, end_of-Stmt}
+use Rattle.affc_ast.specs.Denials.{denied}
 use Rattle.affc_ast.specs.Recursion.{by_stmt, by_each}
 use Rattle.affc_ast.specs.Trace.{joined}
 use Rattle.affc_ast.proofs.Steps.{row_of, unrolled, flat_unrolled}
@@ -24,9 +25,9 @@ under_loop depth iter low rel high (rs ∷ rss) = (λ i. moved depth (length (it
     moved : (m n : ℕ) → suc m + n ≡ m + suc n
     moved m n = omega arith
 
-under_test : (depth : ℕ) (conds : _) (rss : List (List Round)) → map (depth_in depth) rss ≡ map (depth_in depth) (map (λ rs. Test conds ∷ rs) rss)
-under_test depth conds [] = refl
-under_test depth conds (rs ∷ rss) = ap (λ l. depth_in depth rs ∷ l) (under_test depth conds rss)
+under_test : (depth : ℕ) (cond : _) (rss : List (List Round)) → map (depth_in depth) rss ≡ map (depth_in depth) (map (λ rs. Test cond ∷ rs) rss)
+under_test depth cond [] = refl
+under_test depth cond (rs ∷ rss) = ap (λ l. depth_in depth rs ∷ l) (under_test depth cond rss)
 
 alone : (n : ℕ) → n ≡ n + 0
 alone n = omega arith
@@ -34,7 +35,10 @@ alone n = omega arith
 mutual
   depths_are : (x : Stmt) (depth : ℕ) → by_stmt loops_step x depth ≡ map (depth_in depth) (by_stmt rounds_step x)
   depths_are (s.For' iter low rel high shape body) depth = row_depths_are body (suc depth) ∙ under_loop depth iter low rel high (joined (by_each rounds_step body))
-  depths_are (s.If' conds shape body) depth = row_depths_are body depth ∙ under_test depth conds (joined (by_each rounds_step body))
+  depths_are (s.If' cond shape body shape' other) depth =
+      ap (λ ns. ns ++ each_round (by_each loops_step other) depth) (row_depths_are body depth ∙ under_test depth cond (joined (by_each rounds_step body)))
+      ∙ ap (λ ns. map (depth_in depth) (map (λ rs. Test cond ∷ rs) (joined (by_each rounds_step body))) ++ ns) (row_depths_are other depth ∙ under_test depth (denied cond) (joined (by_each rounds_step other)))
+      ∙ sym (map-append (depth_in depth) (map (λ rs. Test cond ∷ rs) (joined (by_each rounds_step body))) (map (λ rs. Test (denied cond) ∷ rs) (joined (by_each rounds_step other))))
   depths_are (s.Assign op array subs value) depth = ap (λ n. n ∷ []) (alone depth)
   depths_are (s.Block' locals shape body) depth = row_depths_are body depth
 

@@ -1,9 +1,11 @@
 -- Walks over a program's tree: what is found further on stands behind what was found.
 use Rattle.std.proofs.Common.{◌≡◌, ℕ, suc, ◌+◌, ◌<◌, Bool, List, [], ◌∷◌, ◌++◌, map, length, drop, get_or, drop-cons, refl, sym, ap, ◌∙◌, arith, append_assoc, append-nil, flat_map}
+use Rattle.std.proofs.lemmas.List.{map-append}
 use Rattle.affc_ast.specs.declared.tree.Stmt.{Stmt, out-Stmt, map-Stmt, the_lemmas as stmt_lemmas}
 use Rattle.affc_ast.specs.declared.tree.Stmt.TheOpen as layer
 use Rattle.affc_ast.specs.declared.tree.Stmt.TheOpen.{Stmt-F}
 use Rattle.affc_ast.specs.declared.tree.Stmt.TheVariants as c
+use Rattle.affc_ast.specs.Denials.{denied}
 use Rattle.affc_ast.specs.Recursion.{by_stmt}
 use Rattle.affc_ast.specs.Trace.{joined}
 use Rattle.affc_ast.proofs.Outs.{by_stmt_out}
@@ -36,9 +38,9 @@ under_loop : (around : List Name) (iter : Name) (low : _) (rel : _) (high : _) (
 under_loop around iter low rel high [] = refl
 under_loop around iter low rel high (rs ∷ rss) = (λ i. append_assoc around (iter ∷ []) (iterators_in rs) i ∷ under_loop around iter low rel high rss i)
 
-under_test : (around : List Name) (conds : _) (rss : List (List Round)) → iterators_under around rss ≡ iterators_under around (map (λ rs. Test conds ∷ rs) rss)
-under_test around conds [] = refl
-under_test around conds (rs ∷ rss) = ap (λ l. (around ++ iterators_in rs) ∷ l) (under_test around conds rss)
+under_test : (around : List Name) (cond : _) (rss : List (List Round)) → iterators_under around rss ≡ iterators_under around (map (λ rs. Test cond ∷ rs) rss)
+under_test around cond [] = refl
+under_test around cond (rs ∷ rss) = ap (λ l. (around ++ iterators_in rs) ∷ l) (under_test around cond rss)
 
 unrolled : (s : Stmt) (z : Stmt-F Stmt) → out-Stmt s ≡ z → by_stmt rounds_step s ≡ rounds_step (map-Stmt Stmt (List (List Round)) (by_stmt rounds_step) z)
 unrolled s z e = by_stmt_out rounds_step s ∙ ap (λ y. rounds_step (map-Stmt Stmt (List (List Round)) (by_stmt rounds_step) y)) e
@@ -50,11 +52,19 @@ for_under around inside s iter low rel high body ss g e q =
     ∙ under_loop around iter low rel high (all_rounds body)
     ∙ ap (iterators_under around) (sym (unrolled s (layer.For iter low rel high body) (ap out-Stmt g ∙ simp stmt_lemmas)))
 
-pub if_under : (around : List Name) (s : Stmt) (conds : _) (body ss : List Stmt) → s ≡ c.If conds body → ss ≡ body → iterators_under around (all_rounds ss) ≡ iterators_under around (by_stmt rounds_step s)
-if_under around s conds body ss g q =
-    (λ i. iterators_under around (all_rounds (q i)))
-    ∙ under_test around conds (all_rounds body)
-    ∙ ap (iterators_under around) (sym (unrolled s (layer.If conds body) (ap out-Stmt g ∙ simp stmt_lemmas)))
+-- what both branches add, one behind the other
+pub if_under : (around : List Name) (s : Stmt) (cond : _) (body other ss ts : List Stmt) (old here end : List (List Name)) → s ≡ c.If cond body other → ss ≡ body → ts ≡ other
+    → here ≡ old ++ iterators_under around (all_rounds ss) → end ≡ here ++ iterators_under around (all_rounds ts) → end ≡ old ++ iterators_under around (by_stmt rounds_step s)
+if_under around s cond body other ss ts old here end g q r e f =
+    let first = iterators_under around (map (λ rs. Test cond ∷ rs) (all_rounds body)) in
+    let second = iterators_under around (map (λ rs. Test (denied cond) ∷ rs) (all_rounds other)) in
+    let e' : here ≡ old ++ first = e ∙ (λ i. old ++ iterators_under around (all_rounds (q i))) ∙ ap (λ l. old ++ l) (under_test around cond (all_rounds body)) in
+    f ∙ ap (λ l. l ++ iterators_under around (all_rounds ts)) e'
+    ∙ (λ i. (old ++ first) ++ iterators_under around (all_rounds (r i)))
+    ∙ ap (λ l. (old ++ first) ++ l) (under_test around (denied cond) (all_rounds other))
+    ∙ append_assoc old first second
+    ∙ ap (λ l. old ++ l) (sym (map-append (λ rs. around ++ iterators_in rs) (map (λ rs. Test cond ∷ rs) (all_rounds body)) (map (λ rs. Test (denied cond) ∷ rs) (all_rounds other))))
+    ∙ ap (λ rss. old ++ iterators_under around rss) (sym (unrolled s (layer.If cond body other) (ap out-Stmt g ∙ simp stmt_lemmas)))
 
 pub block_under : (around : List Name) (s : Stmt) (locals : _) (body ss : List Stmt) → s ≡ c.Block locals body → ss ≡ body → iterators_under around (all_rounds ss) ≡ iterators_under around (by_stmt rounds_step s)
 block_under around s locals body ss g q =

@@ -22,7 +22,7 @@ number_names (Array decl ∷ ps) = number_names ps
 abbrev pub iterators_in : List Round → List Name
 iterators_in [] = []
 iterators_in (Loop iter low rel high ∷ rs) = iter ∷ iterators_in rs
-iterators_in (Test conds ∷ rs) = iterators_in rs
+iterators_in (Test cond ∷ rs) = iterators_in rs
 
 abbrev pub array_outline : (is_temporary : Bool) → Decl → ArrayOutline
 array_outline is_temporary d = record { name = d.name; dimensions = length d.extents; is_temporary = is_temporary }

@@ -138,7 +138,14 @@ fn walk(
             let inside = with_name(alloc, around, iter)?;
             walk_all(alloc, body.as_slice(), inside.as_slice(), out)
         }
-        Stmt::If { conds: _, body } => walk_all(alloc, body.as_slice(), around, out),
+        Stmt::If {
+            cond: _,
+            body,
+            other,
+        } => {
+            walk_all(alloc, body.as_slice(), around, out)?;
+            walk_all(alloc, other.as_slice(), around, out)
+        }
         Stmt::Assign {
             op: _,
             array: _,

@@ -1,9 +1,9 @@
 use Rattle.std.proofs.Common.{◌≡◌, ℕ, suc, ◌∷◌, ◌++◌, [], ◌+◌, map, ap, sym, ◌∙◌, arith}
 use Rattle.affc_ast.specs.Recursion.{by_stmt}
-use Rattle.affc_domain.specs.Rounds.{Loop, Test}
+use Rattle.affc_domain.specs.Rounds.{Loop}
 use Rattle.affc_nest.specs.Frames.{all_seen}
 use Rattle.affc_nest.specs.Sites.{Walked, places, loops_of, in_turn, walked_step}
-use Rattle.affc_nest.proofs.SiteLemmas.{for_is, if_is, block_is}
+use Rattle.affc_nest.proofs.SiteLemmas.{for_is, if_is, block_is, both_counted, both_walked}
 use Rattle.affc_nest.proofs.sites.+walk.Goals as goal
 
 one_more : (first next : ℕ) → first ≡ next + 1 → first ≡ suc next
@@ -35,17 +35,20 @@ walk-returns-in_ok-end-in-For-clause-sites t c =
 
 pub walk-returns-in_ok-end-in-If-clause-number : goal.walk-returns-in_ok-end-in-If-clause-number
 walk-returns-in_ok-end-in-If-clause-number t c =
-    let e = if_is c.args.s.now c.in-If.conds c.in-If.body c.in-If.is in
-    c.in_ok-end-in-If.ensures.number ∙ ap (λ ss. c.args.next + loops_of (map (by_stmt walked_step) ss)) c.as_slice-in-If-2.ensures ∙ ap (λ (w : Walked). c.args.next + w.loops) (sym e)
+    let e = if_is c.args.s.now c.in-If.cond c.in-If.body c.in-If.other c.in-If.is in
+    let k = loops_of (map (by_stmt walked_step) c.in-If.body) in
+    c.in_ok-end-in-If.ensures.number ∙ ap (λ ss. c.in_ok-middle-in-If.middle + loops_of (map (by_stmt walked_step) ss)) c.as_slice-in-If-3.ensures
+    ∙ both_counted c.in_ok-middle-in-If.middle c.args.next k (loops_of (map (by_stmt walked_step) c.in-If.other))
+    (c.in_ok-middle-in-If.ensures.number ∙ ap (λ ss. c.args.next + loops_of (map (by_stmt walked_step) ss)) c.as_slice-in-If.ensures)
+    ∙ ap (λ (w : Walked). c.args.next + w.loops) (sym e)
 
 pub walk-returns-in_ok-end-in-If-clause-sites : goal.walk-returns-in_ok-end-in-If-clause-sites
 walk-returns-in_ok-end-in-If-clause-sites t c =
-    let e = if_is c.args.s.now c.in-If.conds c.in-If.body c.in-If.is in
-    let around : all_seen c.as_slice-in-If-3.result.now ≡ all_seen c.args.frames.now ++ Test c.in-If.conds ∷ [] =
-    ap all_seen c.as_slice-in-If-3.ensures.value ∙ c.in_ok-around-in-If.ensures ∙ ap (λ cs. all_seen c.args.frames.now ++ Test cs ∷ []) c.as_slice-in-If.ensures in
-    c.in_ok-end-in-If.ensures.sites
-    ∙ ap (λ ss. places c.args.out.now.items ++ in_turn (map (by_stmt walked_step) ss) (all_seen c.as_slice-in-If-3.result.now) c.args.loops.now c.args.next) c.as_slice-in-If-2.ensures
-    ∙ ap (λ rs. places c.args.out.now.items ++ in_turn (map (by_stmt walked_step) c.in-If.body) rs c.args.loops.now c.args.next) around
+    let e = if_is c.args.s.now c.in-If.cond c.in-If.body c.in-If.other c.in-If.is in
+    both_walked (all_seen c.args.frames.now) (all_seen c.as_slice-in-If-2.result.now) (all_seen c.as_slice-in-If-4.result.now) c.in-If.cond
+    c.in-If.body c.in-If.other c.as_slice-in-If.result.now c.as_slice-in-If-3.result.now c.args.loops.now c.args.next c.in_ok-middle-in-If.middle (places c.args.out.now.items) _ _
+    (ap all_seen c.as_slice-in-If-2.ensures.value ∙ c.in_ok-under-in-If.ensures) (ap all_seen c.as_slice-in-If-4.ensures.value ∙ c.in_ok-beside-in-If.ensures)
+    c.as_slice-in-If.ensures c.as_slice-in-If-3.ensures c.in_ok-middle-in-If.ensures.number c.in_ok-middle-in-If.ensures.sites c.in_ok-end-in-If.ensures.sites
     ∙ ap (λ (w : Walked). places c.args.out.now.items ++ w.places (all_seen c.args.frames.now) c.args.loops.now c.args.next) (sym e)
 
 pub walk-returns-in_ok-end-in-Block-clause-number : goal.walk-returns-in_ok-end-in-Block-clause-number
