@@ -1,31 +1,31 @@
 -- A run goes along its instances to the first fault.
-use Rattle.std.proofs.Common.{◌≡◌, ℕ, ◌+◌, ℤ, pos, ◌+ℤ◌, T, if◌then◌else◌, IsTrue, List, [], ◌∷◌, ◌++◌, length, map, flat_map, sum_by, Some, refl, sym, ap, subst, ◌∙◌, inl, arith}
+use Rattle.std.proofs.Common.{◌≡◌, ℕ, ◌+◌, ℤ, pos, ◌+ℤ◌, T, if◌then◌else◌, IsTrue, List, [], ◌∷◌, ◌++◌, length, map, flat_map, Some, refl, sym, ap, subst, ◌∙◌, inl, arith}
 use Rattle.std.specs.Prelude.{slice_get, nat_lt}
 use Rattle.affc_ast.specs.declared.tree.Instance.{Instance}
 use Rattle.affc_ast.specs.declared.tree.Stmt.{Stmt}
 use Rattle.affc_ast.specs.declared.tree.Stmt.TheVariants as s
 use Rattle.affc_ast.specs.declared.tree.Stmt.TheBlock.{Row_of-Stmt, more_of-Stmt, end_of-Stmt}
-use Rattle.affc_ast.specs.Fits.{whole, all_hold}
-use Rattle.affc_ast.specs.Index.{index_value, nodes_of_ix, nodes_of_compare, conditions}
-use Rattle.affc_ast.specs.Meaning.{State, Outcome, Position, turns_of, in_order, with_iterator, inside, past, assigned, stmt_step, denotation_of}
+use Rattle.affc_ast.specs.Conditions.{nodes_of_cond, condition}
+use Rattle.affc_ast.specs.Fits.{whole, is_true_at}
+use Rattle.affc_ast.specs.Index.{index_value, nodes_of_ix}
+use Rattle.affc_ast.specs.Meaning.{State, Outcome, Position, assigns_in, turns_of, in_order, with_iterator, inside, past, past_all, assigned, stmt_step, denotation_of}
 use Rattle.affc_ast.specs.Recursion.{by_stmt, by_each}
 use Rattle.affc_ast.specs.Store.{Element}
-use Rattle.affc_ast.specs.Trace.{count_from, Assignment, assignments_step, walk_step, in_walk_order}
+use Rattle.affc_ast.specs.Trace.{count_from, Assignment, assignments_step, walk_step, in_walk_order, assigns_of}
 use Rattle.affc_ast.specs.Values.{Scope}
 use Rattle.affc_ast.proofs.Steps.{row_of, unrolled, flat_unrolled}
 use Rattle.affc_trace.specs.Law.{IsIn, Effect}
 use Rattle.affc_trace.specs.Effects.{effect_by, all_true, plain_step}
 use Rattle.affc_trace.proofs.EndedReads.{append_assoc}
 use Rattle.affc_trace.proofs.Members.{both_hold, to_first, to_second, to_flat_map}
-use Rattle.affc_trace.proofs.Runs.{PartsAt, parts_left, parts_right, part_count, walk_count, both_true}
+use Rattle.affc_trace.proofs.Runs.{PartsAt, parts_left, parts_right, part_count, parts_count, walk_count, walks_count, both_true}
 use Rattle.affc_trace.proofs.TraceEffects.{effect_in}
-use Rattle.affc_domain.specs.Plain.{is_plain, plain_tests}
+use Rattle.affc_domain.specs.Plain.{is_plain, plain_cond}
 use Rattle.affc_domain.specs.Ranges.{range_of}
 use Rattle.affc_domain.proofs.RangeLemmas.{box_length}
 use Rattle.affc_safe.specs.Overflow.{all_near, near_step, ReadsAssignment}
-use Rattle.affc_safe.proofs.PlainReads.{small_is_int64, plain_reads, plain_tests_read}
-use Rattle.affc_safe.proofs.Walk.{Sits, turned, step_fits, to_if}
-use Rattle.affc_safe.proofs.Wants.{conditions_read}
+use Rattle.affc_safe.proofs.PlainReads.{small_is_int64, plain_reads, plain_cond_reads}
+use Rattle.affc_safe.proofs.Walk.{Sits, turned, step_fits, to_if, to_else}
 use Rattle.affc_floor.specs.Faults.{fault_of}
 use Rattle.affc_floor.proofs.Says.{Says, says_assigned, stored_is}
 use Rattle.affc_floor.proofs.Goes.{holds, Goes, goes_nothing, goes_then, goes_reading, goes_if, goes_turns, goes_assign}
@@ -66,15 +66,29 @@ module _ (all : List Assignment) (p : List ℤ) (extents : List (List ℤ)) wher
         row_goes body k (ts ++ y ∷ []) (ranges ++ r ∷ []) bare turn.inside_near parts
         (λ b j. read b (to_flat_map each (values (p ++ ts)) y b (subst (λ names. IsIn y (values names)) n i) j))
         (inside place (1 + nodes_of_ix low + nodes_of_ix high)) (with_iterator scope y) u turn.sits (ap (λ l. l ++ y ∷ []) n ∙ append_assoc p ts (y ∷ [])) (ap (λ l. l ++ y ∷ []) m) x q))))
-    stmt_goes (s.If' conds shape body) k ts ranges bare small parts read place scope t sits n m x q =
-        let a = both_hold (plain_tests (length ranges) conds) _ small in
+    stmt_goes (s.If' cond shape body shape' other) k ts ranges bare small parts read place scope t sits n m x q =
+        let both = both_true (all_true (by_each plain_step body)) (all_true (by_each plain_step other)) bare in
+        let a = both_hold (plain_cond (length ranges) cond) _ small in
+        let u = both_hold (all_near (by_each near_step body) ranges) (all_near (by_each near_step other) ranges) a.1 in
         let l : length ranges ≡ length scope.names = box_length ranges scope.names sits.box in
+        let first : List Assignment = flat_map (λ a. a) (by_each assignments_step body) in
+        let second : List Assignment = flat_map (λ a. a) (by_each assignments_step other) in
+        let more : ℕ = k + assigns_of (by_each (walk_step p) body) in
+        let right : PartsAt all more second = subst (λ c. PartsAt all (k + c) second) (sym (walks_count p body ∙ parts_count body)) (parts_right all k first second parts) in
         let within : List Instance = in_walk_order (by_each (walk_step p) body) k ts in
-        same_list t (if all_hold conds scope.names then within else []) _ _ (ap (λ names. if all_hold conds names then within else []) n)
-        (goes_reading extents (effect_in all p) (conditions conds (place.node + 1) scope.names) (all_hold conds scope.names) t t _ _ (conditions_read conds scope.names (place.node + 1) (plain_tests_read (length ranges) scope.names conds l sits.near a.0))
-        (goes_if extents (effect_in all p) (all_hold conds scope.names) t within _ (λ e.
-        row_goes body k ts ranges bare a.1 parts (λ b j. read b (to_if (all_hold conds (p ++ ts)) b within (ap (all_hold conds) (sym n) ∙ e) j))
-        (inside place (1 + sum_by nodes_of_compare conds)) scope t sits n m x q)))
+        let others : List Instance = in_walk_order (by_each (walk_step p) other) more ts in
+        let here : is_true_at cond (p ++ ts) ≡ is_true_at cond scope.names = ap (is_true_at cond) (sym n) in
+        let next : place.statement + assigns_in (by_each stmt_step body) ≡ more =
+        ap (λ c. c + assigns_in (by_each stmt_step body)) q ∙ ap (λ c. k + c) (sym (walks_count p body)) in
+        same_list t (if is_true_at cond scope.names then within else others) _ _ (ap (λ b. if b then within else others) (sym here))
+        (goes_reading extents (effect_in all p) (condition cond (place.node + 1) scope.names) (is_true_at cond scope.names) t t _ _ (plain_cond_reads (length ranges) scope.names cond l sits.near a.0 (place.node + 1))
+        (goes_if extents (effect_in all p) (is_true_at cond scope.names) t within others _ _
+        (λ e.
+        row_goes body k ts ranges both.0 u.0 (parts_left all k first second parts) (λ b j. read b (to_if (is_true_at cond (p ++ ts)) b within others (here ∙ e) j))
+        (inside place (1 + nodes_of_cond cond)) scope t sits n m x q)
+        (λ e.
+        row_goes other more ts ranges both.1 u.1 right (λ b j. read b (to_else (is_true_at cond (p ++ ts)) b within others (here ∙ e) j))
+        (past_all (by_each stmt_step body) (inside place (1 + nodes_of_cond cond))) scope t sits n m x next)))
     stmt_goes (s.Assign op array subs value) k ts ranges bare small parts read place scope t sits n m x q =
         let a : Assignment = record { op = op; array = array; subs = subs; value = value } in
         let z : k + 0 ≡ k = omega arith in

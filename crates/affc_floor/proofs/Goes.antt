@@ -66,9 +66,9 @@ module _ (extents : List (List ℤ)) (its : Instance → Effect Element ℕ) whe
   pub goes_reading : {A : Type 0} (r : Result A Cause) (x : A) (t u : State) (is : List Instance) (f : A → Outcome) → r ≡ Ok x → Goes t is (f x) → Goes t is (reading r u f)
   goes_reading r x t u is f e g = subst (λ q. Goes t is (reading q u f)) (sym e) g
 
-  pub goes_if : (b : Bool) (t : State) (is : List Instance) (o : Outcome) → (b ≡ true → Goes t is o) → Goes t (if b then is else []) (if b then o else Ended t)
-  goes_if true t is o h = h refl
-  goes_if false t is o h = goes_nothing t
+  pub goes_if : (b : Bool) (t : State) (is js : List Instance) (o u : Outcome) → (b ≡ true → Goes t is o) → (b ≡ false → Goes t js u) → Goes t (if b then is else js) (if b then o else u)
+  goes_if true t is js o u h g = h refl
+  goes_if false t is js o u h g = g refl
 
   goes_begun : (t : State) (is : List Instance) (o : Outcome) → Goes (begun t) is o → Goes t is o
   unfolding Goes

@@ -9,6 +9,7 @@ use Rattle.std.proofs.lemmas.Option.{none-some, same_Some}
 use denote.Hole.Carrier.{hidden}
 use Rattle.affc_ast.specs.declared.tree.Ix.TheBlock.{shape-the_row-Ix-0, hidden-the_row-Ix-0}
 use Rattle.affc_ast.specs.declared.tree.Val.TheBlock.{shape-the_row-Val-0, hidden-the_row-Val-0}
+use Rattle.affc_ast.specs.declared.tree.Cond.TheBlock.{shape-the_row-Cond-0, hidden-the_row-Cond-0}
 use Rattle.affc_ast.specs.declared.tree.Stmt.TheBlock.{shape-the_row-Stmt-0, hidden-the_row-Stmt-0}
 use Rattle.affc_rows.specs.Forms.{dot, value}
 use Rattle.affc_ast.specs.declared.tree.ArrayId.{ArrayId}
@@ -54,7 +55,7 @@ use Rattle.affc_foldloops.proofs.Remainder.{remainder_is_read}
 use Rattle.affc_foldloops.proofs.ReplaceLemmas.{accesses_read, refolded_replaces}
 
 pub all_are_marked : AllAreMarked
-unfolding shape-the_row-Ix-0 hidden-the_row-Ix-0 shape-the_row-Val-0 hidden-the_row-Val-0 shape-the_row-Stmt-0 hidden-the_row-Stmt-0 hidden
+unfolding shape-the_row-Ix-0 hidden-the_row-Ix-0 shape-the_row-Val-0 hidden-the_row-Val-0 shape-the_row-Stmt-0 hidden-the_row-Stmt-0 shape-the_row-Cond-0 hidden-the_row-Cond-0 hidden
 all_are_marked = refl
 
 -- ---- Places modulo 3
@@ -79,7 +80,7 @@ at_three e names p = ap (λ z. (2, z ∷ [])) (remainder_of_three e names p)
 -- each access of the blur
 by_access : (P : List ℤ → Access → Type 0) (names : List ℤ) (k : ℕ) (a : Assignment) (x : Access) → slice_get (assignments blur) k ≡ Some a → IsIn x (accesses_of a)
     → ((array : ArrayId) (subs : List Ix) → nat_eq array.0 2 ≡ false → P names (array, subs)) → ((e : Ix) → P names (record { 0 = 2 }, e ∷ [])) → P names x
-unfolding shape-the_row-Ix-0 hidden-the_row-Ix-0 shape-the_row-Val-0 hidden-the_row-Val-0 shape-the_row-Stmt-0 hidden-the_row-Stmt-0 hidden
+unfolding shape-the_row-Ix-0 hidden-the_row-Ix-0 shape-the_row-Val-0 hidden-the_row-Val-0 shape-the_row-Stmt-0 hidden-the_row-Stmt-0 shape-the_row-Cond-0 hidden-the_row-Cond-0 hidden
 by_access P names zero a x e j others its = first (subst (λ c. IsIn x (accesses_of c)) (sym (same_Some _ a e)) j)
   where
     first : IsIn x (accesses_of (get_or (assignments blur) 0 a)) → P names x
@@ -153,7 +154,7 @@ further k = by_test (nat_eq 2 (2 + suc k)) refl
     by_test true g = absurd (not_two k (eqb-true 2 (2 + suc k) g))
 
 blur_extents : (p : List ℤ) → HaveFoldedExtents (three ∷ []) blur folds p
-unfolding shape-the_row-Ix-0 hidden-the_row-Ix-0 shape-the_row-Val-0 hidden-the_row-Val-0 shape-the_row-Stmt-0 hidden-the_row-Stmt-0 hidden
+unfolding shape-the_row-Ix-0 hidden-the_row-Ix-0 shape-the_row-Val-0 hidden-the_row-Val-0 shape-the_row-Stmt-0 hidden-the_row-Stmt-0 shape-the_row-Cond-0 hidden-the_row-Cond-0 hidden
 blur_extents p zero = ap (λ z. z ∷ []) (sym (value_three p))
 blur_extents p (suc k) = ap (λ o. extents_by o p []) (sym (further k))
 
@@ -166,11 +167,11 @@ safe_at : (p : List ℤ) → extents_hold blur p ≡ true → accesses_hold blur
 safe_at p e f g = let r = reasons_are_found blur p in record { extents = r.0.1 e; within = r.1.1 f; written = r.2.1 g }
 
 blur_is_safe : (p : List ℤ) → IsInContext blur p → IsSafe blur p
-unfolding shape-the_row-Ix-0 hidden-the_row-Ix-0 shape-the_row-Val-0 hidden-the_row-Val-0 shape-the_row-Stmt-0 hidden-the_row-Stmt-0 hidden
+unfolding shape-the_row-Ix-0 hidden-the_row-Ix-0 shape-the_row-Val-0 hidden-the_row-Val-0 shape-the_row-Stmt-0 hidden-the_row-Stmt-0 shape-the_row-Cond-0 hidden-the_row-Cond-0 hidden
 blur_is_safe = by_context (IsSafe blur) (safe_at (pos 1 ∷ []) refl refl refl) (safe_at (pos 2 ∷ []) refl refl refl) (safe_at (pos 3 ∷ []) refl refl refl) (safe_at (pos 4 ∷ []) refl refl refl)
 
 blur_is_legal : (p : List ℤ) → IsInContext blur p → Legal blur together p
-unfolding shape-the_row-Ix-0 hidden-the_row-Ix-0 shape-the_row-Val-0 hidden-the_row-Val-0 shape-the_row-Stmt-0 hidden-the_row-Stmt-0 hidden
+unfolding shape-the_row-Ix-0 hidden-the_row-Ix-0 shape-the_row-Val-0 hidden-the_row-Val-0 shape-the_row-Stmt-0 hidden-the_row-Stmt-0 shape-the_row-Cond-0 hidden-the_row-Cond-0 hidden
 blur_is_legal = by_context (Legal blur together)
     ((legal_has_no_violations blur together (pos 1 ∷ [])).1 refl)
     ((legal_has_no_violations blur together (pos 2 ∷ [])).1 refl)
@@ -222,11 +223,11 @@ no_rows p ranges (e ∷ f ∷ []) one both = (no_row p ranges e one, (no_row p r
 no_rows p ranges (e ∷ f ∷ g ∷ es) one both = absurd (omega arith)
 
 one_component : length (time_ranges (number_ranges blur.params) (scheduled blur maps)) ≡ 1
-unfolding shape-the_row-Ix-0 hidden-the_row-Ix-0 shape-the_row-Val-0 hidden-the_row-Val-0 shape-the_row-Stmt-0 hidden-the_row-Stmt-0 hidden
+unfolding shape-the_row-Ix-0 hidden-the_row-Ix-0 shape-the_row-Val-0 hidden-the_row-Val-0 shape-the_row-Stmt-0 hidden-the_row-Stmt-0 shape-the_row-Cond-0 hidden-the_row-Cond-0 hidden
 one_component = refl
 
 two_statements : length (scheduled blur maps) ≡ 2
-unfolding shape-the_row-Ix-0 hidden-the_row-Ix-0 shape-the_row-Val-0 hidden-the_row-Val-0 shape-the_row-Stmt-0 hidden-the_row-Stmt-0 hidden
+unfolding shape-the_row-Ix-0 hidden-the_row-Ix-0 shape-the_row-Val-0 hidden-the_row-Val-0 shape-the_row-Stmt-0 hidden-the_row-Stmt-0 shape-the_row-Cond-0 hidden-the_row-Cond-0 hidden
 two_statements = refl
 
 ends_hold : (p : List ℤ) → IsInContext blur p → HoldTimes blur maps (ends_of blur maps without_rows) p
@@ -238,11 +239,11 @@ pub blur_compiles : BlurCompiles
 blur_compiles = refolded_between_compile by_three (three ∷ []) blur 1 maps (ends_of blur maps without_rows) folds blur_has_loops blur_folds_by ends_hold
 
 two_is_inside : IsInContext blur two
-unfolding shape-the_row-Ix-0 hidden-the_row-Ix-0 shape-the_row-Val-0 hidden-the_row-Val-0 shape-the_row-Stmt-0 hidden-the_row-Stmt-0 hidden
+unfolding shape-the_row-Ix-0 hidden-the_row-Ix-0 shape-the_row-Val-0 hidden-the_row-Val-0 shape-the_row-Stmt-0 hidden-the_row-Stmt-0 shape-the_row-Cond-0 hidden-the_row-Cond-0 hidden
 two_is_inside = in_context 2 refl
 
 blur_is_bare : has_no_locals blur ≡ true
-unfolding shape-the_row-Ix-0 hidden-the_row-Ix-0 shape-the_row-Val-0 hidden-the_row-Val-0 shape-the_row-Stmt-0 hidden-the_row-Stmt-0 hidden
+unfolding shape-the_row-Ix-0 hidden-the_row-Ix-0 shape-the_row-Val-0 hidden-the_row-Val-0 shape-the_row-Stmt-0 hidden-the_row-Stmt-0 shape-the_row-Cond-0 hidden-the_row-Cond-0 hidden
 blur_is_bare = refl
 
 pub blur_is_replaced : BlurIsReplaced
@@ -280,7 +281,7 @@ abbrev first_of_all : List ℤ → ℤ
 first_of_all xs = get_or xs 0 (pos 0)
 
 pub others_dont_stand : OthersDontStand
-unfolding shape-the_row-Ix-0 hidden-the_row-Ix-0 shape-the_row-Val-0 hidden-the_row-Val-0 shape-the_row-Stmt-0 hidden-the_row-Stmt-0 hidden
+unfolding shape-the_row-Ix-0 hidden-the_row-Ix-0 shape-the_row-Val-0 hidden-the_row-Val-0 shape-the_row-Stmt-0 hidden-the_row-Stmt-0 shape-the_row-Cond-0 hidden-the_row-Cond-0 hidden
 others_dont_stand = (
   λ h. true≢false (sym h.bare),
   λ h. six_are_not_none (ap length h.same_trace),
@@ -288,14 +289,14 @@ others_dont_stand = (
 )
 
 pub two_are_too_few : TwoAreTooFew
-unfolding shape-the_row-Ix-0 hidden-the_row-Ix-0 shape-the_row-Val-0 hidden-the_row-Val-0 shape-the_row-Stmt-0 hidden-the_row-Stmt-0 hidden
+unfolding shape-the_row-Ix-0 hidden-the_row-Ix-0 shape-the_row-Val-0 hidden-the_row-Val-0 shape-the_row-Stmt-0 hidden-the_row-Stmt-0 shape-the_row-Cond-0 hidden-the_row-Cond-0 hidden
 two_are_too_few = (
   Replaces.within blur_is_replaced,
   λ h. true≢false (sym (h (S0 2) (2, pos 2 ∷ []) (inr (inr (inl refl))) (inr refl))),
 )
 
 pub other_places : OtherPlaces
-unfolding shape-the_row-Ix-0 hidden-the_row-Ix-0 shape-the_row-Val-0 hidden-the_row-Val-0 shape-the_row-Stmt-0 hidden-the_row-Stmt-0 hidden
+unfolding shape-the_row-Ix-0 hidden-the_row-Ix-0 shape-the_row-Val-0 hidden-the_row-Val-0 shape-the_row-Stmt-0 hidden-the_row-Stmt-0 shape-the_row-Cond-0 hidden-the_row-Cond-0 hidden
 other_places = λ h. three_is_not_none (sym (ap (λ (x : Element). first_of_all x.1) (h (S0 3) _ _ (inr (inr (inr (inl refl)))) refl (inr (inl refl)))))
 
 there_and_back : (z m : ℤ) → (z +ℤ m) -ℤ m ≡ z
@@ -308,7 +309,7 @@ at_far e names p =
     ap (λ z. (2, z ∷ [])) (remainder_of_three (Sub (Add e most) most) names p ∙ ap (λ z. int_rem_euclid (dot (pos 1 ∷ []) (z ∷ [])) (value (number 3) p)) same)
 
 pub far_isnt_read : FarIsntRead
-unfolding shape-the_row-Ix-0 hidden-the_row-Ix-0 shape-the_row-Val-0 hidden-the_row-Val-0 shape-the_row-Stmt-0 hidden-the_row-Stmt-0 hidden
+unfolding shape-the_row-Ix-0 hidden-the_row-Ix-0 shape-the_row-Val-0 hidden-the_row-Val-0 shape-the_row-Stmt-0 hidden-the_row-Stmt-0 shape-the_row-Cond-0 hidden-the_row-Cond-0 hidden
 far_isnt_read = (
   λ b a x i e j.
       by_access (IsAtPlace by_far (place folds two)) (two ++ b.iterators) b.statement a x e j
@@ -321,7 +322,7 @@ two_temporaries d (inl e) = one_temporary two d (inl e)
 two_temporaries d (inr i) = one_temporary two d i
 
 pub sizes_of_temporaries : SizesOfTemporaries
-unfolding shape-the_row-Ix-0 hidden-the_row-Ix-0 shape-the_row-Val-0 hidden-the_row-Val-0 shape-the_row-Stmt-0 hidden-the_row-Stmt-0 hidden
+unfolding shape-the_row-Ix-0 hidden-the_row-Ix-0 shape-the_row-Val-0 hidden-the_row-Val-0 shape-the_row-Stmt-0 hidden-the_row-Stmt-0 shape-the_row-Cond-0 hidden-the_row-Cond-0 hidden
 sizes_of_temporaries = (
   two_temporaries,
   λ h. none_is_too_small ((h _ (inr (inl refl))).1 _ (inr (inl refl))),
@@ -329,7 +330,7 @@ sizes_of_temporaries = (
 )
 
 pub extents_of_temporaries : ExtentsOfTemporaries
-unfolding shape-the_row-Ix-0 hidden-the_row-Ix-0 shape-the_row-Val-0 hidden-the_row-Val-0 shape-the_row-Stmt-0 hidden-the_row-Stmt-0 hidden
+unfolding shape-the_row-Ix-0 hidden-the_row-Ix-0 shape-the_row-Val-0 hidden-the_row-Val-0 shape-the_row-Stmt-0 hidden-the_row-Stmt-0 shape-the_row-Cond-0 hidden-the_row-Cond-0 hidden
 extents_of_temporaries = (
   λ h. four_is_not_three (ap first_of_all (h 0)),
   λ k. refl,

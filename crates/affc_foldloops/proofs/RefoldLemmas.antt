@@ -37,7 +37,11 @@ module _ {A : Type 0} (at : Subscripts) (f : Stmt-F A → A)
     pub stmt_same : (x : Stmt) (n : ℕ) → by_stmt f (by_stmt (refold_step at) x n) ≡ by_stmt f x
     stmt_same (s.For' iter low rel high shape body) n =
         for_here f iter low rel high (each_under (by_each (refold_step at) body) (suc n)) ∙ ap (λ l. f (layer.For iter low rel high l)) (row_same body (suc n))
-    stmt_same (s.If' conds shape body) n = if_here f conds (each_under (by_each (refold_step at) body) n) ∙ ap (λ l. f (layer.If conds l)) (row_same body n)
+    stmt_same (s.If' cond shape body shape' other) n =
+        let second : List Stmt = each_under (by_each (refold_step at) other) n in
+        if_here f cond (each_under (by_each (refold_step at) body) n) second
+        ∙ ap (λ l. f (layer.If cond l (map (by_stmt f) second))) (row_same body n)
+        ∙ ap (λ l. f (layer.If cond (by_each f body) l)) (row_same other n)
     stmt_same (s.Assign op array subs value) n = blind op array (at n array subs) subs (refold_value at n value) value
     stmt_same (s.Block' locals shape body) n =
         block_here f locals (each_under (by_each (refold_step at) body) (n + length locals)) ∙ ap (λ l. f (layer.Block locals l)) (row_same body (n + length locals))

@@ -26,7 +26,11 @@ use Rattle.affc_foldloops.proofs.RefoldLemmas.{stmt_same, flat_is, refolded_keep
 mutual
   loops_count : (x : Stmt) (d : ℕ) → length (by_stmt loops_step x d) ≡ length (by_stmt assignments_step x)
   loops_count (s.For' iter low rel high shape body) d = row_loops_count body (suc d)
-  loops_count (s.If' conds shape body) d = row_loops_count body d
+  loops_count (s.If' cond shape body shape' other) d =
+      length_append (each_round (by_each loops_step body) d) (each_round (by_each loops_step other) d)
+      ∙ ap (λ u. u + length (each_round (by_each loops_step other) d)) (row_loops_count body d)
+      ∙ ap (λ u. length (joined (by_each assignments_step body)) + u) (row_loops_count other d)
+      ∙ sym (length_append (joined (by_each assignments_step body)) (joined (by_each assignments_step other)))
   loops_count (s.Assign op array subs value) d = refl
   loops_count (s.Block' locals shape body) d = row_loops_count body d
 
@@ -74,6 +78,14 @@ module _ (at : Subscripts) (first : ℕ) where
   abbrev joined_under : List (ℕ → Stmt) → ℕ → List Assignment
   joined_under fs n = joined (map (by_stmt assignments_step) (each_under fs n))
 
+  row_new_count : {k : _} (body : Row_of-Stmt k) (n : ℕ) → length (joined_under (by_each (refold_step at) body) n) ≡ length (joined (by_each assignments_step body))
+  row_new_count end_of-Stmt n = refl
+  row_new_count (more_of-Stmt x rest) n =
+      length_append (by_stmt assignments_step (by_stmt (refold_step at) x n)) (joined_under (by_each (refold_step at) rest) n)
+      ∙ ap (λ u. u + length (joined_under (by_each (refold_step at) rest) n)) (new_count x n)
+      ∙ ap (λ u. length (by_stmt assignments_step x) + u) (row_new_count rest n)
+      ∙ sym (length_append (by_stmt assignments_step x) (joined (by_each assignments_step rest)))
+
   mutual
     stmt_at : (x : Stmt) (d : ℕ) → T (by_stmt plain_step x) → AtSame (by_stmt loops_step x d) (by_stmt assignments_step x) (by_stmt assignments_step (by_stmt (refold_step at) x (first + d)))
     stmt_at (s.For' iter low rel high shape body) d plain m l a e f =
@@ -81,8 +93,12 @@ module _ (at : Subscripts) (first : ℕ) where
         ap (λ bs. slice_get bs m) (for_here assignments_step iter low rel high (each_under (by_each (refold_step at) body) (suc (first + d))))
         ∙ ap (λ k. slice_get (joined_under (by_each (refold_step at) body) k) m) k
         ∙ row_at body (suc d) plain m l a e f
-    stmt_at (s.If' conds shape body) d plain m l a e f =
-        ap (λ bs. slice_get bs m) (if_here assignments_step conds (each_under (by_each (refold_step at) body) (first + d))) ∙ row_at body d plain m l a e f
+    stmt_at (s.If' cond shape body shape' other) d plain m l a e f =
+        let both = both_true (all_true (by_each plain_step body)) (all_true (by_each plain_step other)) plain in
+        ap (λ bs. slice_get bs m) (if_here assignments_step cond (each_under (by_each (refold_step at) body) (first + d)) (each_under (by_each (refold_step at) other) (first + d)))
+        ∙ same_append (each_round (by_each loops_step body) d) (each_round (by_each loops_step other) d) (joined (by_each assignments_step body)) (joined (by_each assignments_step other))
+        (joined_under (by_each (refold_step at) body) (first + d)) (joined_under (by_each (refold_step at) other) (first + d))
+        (row_loops_count body d) (row_new_count body (first + d)) (row_at body d both.0) (row_at other d both.1) m l a e f
     stmt_at (s.Assign op array subs value) d plain zero l a e f =
         let mine : Assignment = record { op = op; array = array; subs = subs; value = value } in
         ap (λ k. Some (refolded_assignment at (first + k) mine)) (same_Some d l e) ∙ ap (λ b. Some (refolded_assignment at (first + l) b)) (same_Some mine a f)

@@ -1,5 +1,6 @@
 -- What the definitions give at small programs. Each was found by hand from the rules.
 use Rattle.std.specs.Prelude.{◌≡◌, ℕ, ◌-◌, ◌^◌, ℤ, pos, true, if◌then◌else◌, nat_eq, List, [], ◌∷◌, map, Some, None}
+use Rattle.affc_ast.specs.declared.tree.Cond.TheVariants.{Compare}
 use Rattle.affc_ast.specs.declared.tree.Decl.{Decl}
 use Rattle.affc_ast.specs.declared.tree.Ix.{Ix}
 use Rattle.affc_ast.specs.declared.tree.Ix.TheVariants.{Lit, Name, Add, Sub, Mul, Mod}
@@ -38,14 +39,16 @@ temporary extents = record { name = []; role = Temp; extents = extents }
 abbrev pub marking : Subscripts
 marking names array subs = lit names ∷ lit array.0 ∷ subs
 
--- out[0] = 1; for (i = 0; i < N; i++) { int64_t j = i; if (i >= 1) out[j] += ~(in[i] << 3) * ((uint64_t)i + 7); }
+-- out[0] = 1; for (i = 0; i < N; i++) { int64_t j = i; if (i >= 1) out[j] += ~(in[i] << 3) * ((uint64_t)i + 7); else out[j] = 5; }
 abbrev mixed : (first second third : List Ix) → List Stmt
 mixed first second third =
     Assign None (record { 0 = 1 }) first (Const 1)
     ∷ For [] (lit 0) Less (name 0) (
     Block (record { name = []; value = name 1 } ∷ []) (
-    If (record { rel = GreaterEqual; left = name 1; right = lit 1 } ∷ []) (
+    If (Compare GreaterEqual (name 1) (lit 1)) (
     Assign (Some op.Add) (record { 0 = 1 }) second (Bin op.Mul (Not (Shift true (Load (record { 0 = 0 }) third) 3)) (Bin op.Add (Cast (name 1)) (Const 7)))
+    ∷ []) (
+    Assign None (record { 0 = 1 }) second (Const 5)
     ∷ [])
     ∷ [])
     ∷ [])

@@ -45,7 +45,7 @@ each_under fs names = map (λ f. f names) fs
 
 abbrev pub refold_step : Subscripts → Stmt-F (ℕ → Stmt) → (names : ℕ) → Stmt
 refold_step at (For iter low rel high body) names = s.For iter low rel high (each_under body (suc names))
-refold_step at (If conds body) names = s.If conds (each_under body names)
+refold_step at (If cond body other) names = s.If cond (each_under body names) (each_under other names)
 refold_step at (Assign op array subs value) names = s.Assign op array (at names array subs) (refold_value at names value)
 refold_step at (Block locals body) names = s.Block locals (each_under body (names + length locals))
 

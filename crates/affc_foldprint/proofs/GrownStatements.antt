@@ -4,23 +4,26 @@ use Rattle.std.specs.Prelude.{nat_le}
 use Rattle.std.proofs.lemmas.Bool.{ltb-true, leb-true}
 use Rattle.affc_ast.specs.declared.tree.ArrayId.{ArrayId}
 use Rattle.affc_ast.specs.declared.tree.Compare.{Compare}
+use Rattle.affc_ast.specs.declared.tree.Cond.{Cond}
 use Rattle.affc_ast.specs.declared.tree.Program.{Program}
 use Rattle.affc_ast.specs.declared.tree.Stmt.{Stmt}
 use Rattle.affc_ast.specs.declared.tree.Stmt.TheVariants as s
 use Rattle.affc_ast.specs.declared.tree.Stmt.TheBlock.{Row_of-Stmt, more_of-Stmt, end_of-Stmt}
+use Rattle.affc_ast.specs.Pieces.{comparisons_of}
 use Rattle.affc_ast.specs.Recursion.{by_stmt, by_each}
 use Rattle.affc_ast.specs.Trace.{Assignment, assignments_step, joined}
 use Rattle.affc_ast.proofs.Steps.{for_here, if_here, block_here}
 use Rattle.affc_domain.specs.Accesses.{accesses_in, own_access, accesses_of}
-use Rattle.affc_domain.specs.Plain.{IsPlain, is_plain, all_plain, plain_value, plain_tests, plain_assignment, is_upward, all_of, plain_step}
+use Rattle.affc_domain.specs.Plain.{IsPlain, is_plain, all_plain, plain_value, plain_cond, plain_assignment, is_upward, all_of, plain_step}
 use Rattle.affc_domain.specs.Ranges.{number_ranges}
 use Rattle.affc_domain.specs.Rounds.{Round, Loop, Test}
 use Rattle.affc_domain.proofs.Lists.{both_true}
 use Rattle.affc_cprint.specs.declared.brackets.Level.TheVariants.{Or}
 use Rattle.affc_wellnamed.specs.declared.shape.Shape.{Shape}
-use Rattle.affc_wellnamed.specs.Shape.{empty, nothing, both, line, worded, closed, all_behind, for_head, if_head, block_head, assign_line, stmt_step, stmt_shape}
+use Rattle.affc_wellnamed.specs.Shape.{empty, nothing, both, line, worded, closed, all_behind, else_head, other_behind, for_head, if_head, block_head, assign_line, stmt_step, stmt_shape}
 use Rattle.affc_wellnamed.proofs.ShapeParts.{larger_is}
-use Rattle.affc_loops.specs.Trees.{moved, moved_value}
+use Rattle.affc_loops.specs.Trees.{moved, moved_cond, moved_value}
+use Rattle.affc_loops.specs.Loops as joins
 use Rattle.affc_loops.specs.Loops.{if_any, loop_tests, guarded, moved_assign}
 use Rattle.affc_loopprint.specs.Short.{tested_shape}
 use Rattle.affc_loopprint.proofs.Entries.{EachTwo, two_append}
@@ -109,6 +112,13 @@ module _ (prelude : Bool) (source : Program) (folds : List (ArrayId × Fold)) (p
       let f = z.few in let d = z.shallow in
       record { tokens = omega (arith, f, few); run = omega (arith, f, few); depth = omega (arith, d); items = omega arith }
 
+  -- what follows an `else`
+  branch_grows : {m : _} (other : Row_of-Stmt m) (n t : ℕ) → Behind t (shapes (each_under (by_each (refold_step fresh) other) n)) (by_each (stmt_step prelude) other) → (a b : Shape) (u : ℕ) → Grows u a b
+      → Grows (u + t) (other_behind a (shapes (each_under (by_each (refold_step fresh) other) n))) (other_behind b (by_each (stmt_step prelude) other))
+  branch_grows end_of-Stmt n t f a b u g = f a b u g
+  branch_grows (more_of-Stmt x rest) n t f a b u g =
+      grows_less (u + 0 + t) (u + t) _ _ (omega arith) (f (both a else_head) (both b else_head) (u + 0) (grows_both u 0 a b else_head else_head g (grows_self 0 else_head)))
+
   mutual
     stmt_grows : (x : Stmt) (n k c : ℕ) → n ≡ numbers + k → k ≤ 6 → by_stmt (plain_step numbers) x k c ≡ true
         → Grows (8320 * length (by_stmt assignments_step x)) (stmt_shape prelude (by_stmt (refold_step fresh) x n)) (stmt_shape prelude x)
@@ -122,11 +132,20 @@ module _ (prelude : Bool) (source : Program) (folds : List (ArrayId × Fold)) (p
         (sym (for_here (stmt_step prelude) iter low rel high (each_under (by_each (refold_step fresh) body) (suc n))))
         (under_head (8320 * length (joined (by_each assignments_step body))) (for_head prelude low high) (shapes (each_under (by_each (refold_step fresh) body) (suc n))) (by_each (stmt_step prelude) body)
         (row_grows body (suc n) (suc k) c (omega (arith, e)) (omega (arith, less)) b.1))
-    stmt_grows (s.If' conds shape body) n k c e l g =
-        subst (λ z. Grows (8320 * length (joined (by_each assignments_step body))) z (worded (closed (all_behind (if_head prelude conds) (by_each (stmt_step prelude) body)))))
-        (sym (if_here (stmt_step prelude) conds (each_under (by_each (refold_step fresh) body) n)))
-        (under_head (8320 * length (joined (by_each assignments_step body))) (if_head prelude conds) (shapes (each_under (by_each (refold_step fresh) body) n)) (by_each (stmt_step prelude) body)
-        (row_grows body n k (c + length conds) e l (both_true (plain_tests (numbers + k) conds) _ g).1))
+    stmt_grows (s.If' cond shape body shape' other) n k c e l g =
+        let d = c + comparisons_of cond in
+        let p = both_true (plain_cond (numbers + k) cond) _ g in
+        let q = both_true (all_of (by_each (plain_step numbers) body) k d) (all_of (by_each (plain_step numbers) other) k d) p.1 in
+        let ys = each_under (by_each (refold_step fresh) body) n in
+        let zs = each_under (by_each (refold_step fresh) other) n in
+        let here = 8320 * length (joined (by_each assignments_step body)) in
+        let there = 8320 * length (joined (by_each assignments_step other)) in
+        let count = length-append (joined (by_each assignments_step body)) (joined (by_each assignments_step other)) in
+        let head = if_head prelude cond in
+        let first = row_grows body n k d e l q.0 head head 0 (grows_self 0 head) in
+        subst (λ z. Grows (8320 * length (joined (by_each assignments_step body) ++ joined (by_each assignments_step other))) z (worded (closed (other_behind (all_behind head (by_each (stmt_step prelude) body)) (by_each (stmt_step prelude) other)))))
+        (sym (if_here (stmt_step prelude) cond ys zs))
+        (grows_worded _ _ _ (grows_closed _ _ _ (grows_less (0 + here + there) _ _ _ (omega (arith, count)) (branch_grows other n there (row_grows other n k d e l q.1) _ _ (0 + here) first))))
     stmt_grows (s.Assign op array subs value) n k c e l g =
         let h = both_true (nat_le c 32) _ g in
         let few = plain.few_numbers in
@@ -165,9 +184,14 @@ module _ (prelude : Bool) (source : Program) (folds : List (ArrayId × Fold)) (p
         let less = ltb-true k 6 d.0 in
         subst (λ z. AllGrow z (joined (by_each assignments_step body))) (sym (for_here assignments_step iter low rel high (each_under (by_each (refold_step fresh) body) (suc n))))
         (row_lines body (suc n) (suc k) c (omega (arith, e)) (omega (arith, less)) b.1)
-    stmt_lines (s.If' conds shape body) n k c e l g =
-        subst (λ z. AllGrow z (joined (by_each assignments_step body))) (sym (if_here assignments_step conds (each_under (by_each (refold_step fresh) body) n)))
-        (row_lines body n k (c + length conds) e l (both_true (plain_tests (numbers + k) conds) _ g).1)
+    stmt_lines (s.If' cond shape body shape' other) n k c e l g =
+        let d = c + comparisons_of cond in
+        let p = both_true (plain_cond (numbers + k) cond) _ g in
+        let q = both_true (all_of (by_each (plain_step numbers) body) k d) (all_of (by_each (plain_step numbers) other) k d) p.1 in
+        subst (λ z. AllGrow z (joined (by_each assignments_step body) ++ joined (by_each assignments_step other)))
+        (sym (if_here assignments_step cond (each_under (by_each (refold_step fresh) body) n) (each_under (by_each (refold_step fresh) other) n)))
+        (two_append LineGrows (joined_under (by_each (refold_step fresh) body) n) (joined_under (by_each (refold_step fresh) other) n) (joined (by_each assignments_step body)) (joined (by_each assignments_step other))
+        (row_lines body n k d e l q.0) (row_lines other n k d e l q.1))
     stmt_lines (s.Assign op array subs value) n k c e l g =
         let h = both_true (nat_le c 32) _ g in
         let few = plain.few_numbers in
@@ -190,19 +214,22 @@ module _ (prelude : Bool) (source : Program) (folds : List (ArrayId × Fold)) (p
 abbrev printed : List Stmt → List Shape
 printed xs = map (stmt_shape true) xs
 
+if_behind : (t : ℕ) (cond : Cond) (xs ys : List Stmt) → Behind t (printed xs) (printed ys) → Behind t (printed (s.If cond xs [] ∷ [])) (printed (s.If cond ys [] ∷ []))
+if_behind t cond xs ys h =
+    one_behind t (stmt_shape true (s.If cond xs [])) (stmt_shape true (s.If cond ys []))
+    (subst (λ z. Grows t z (stmt_shape true (s.If cond ys []))) (sym (if_here (stmt_step true) cond xs []))
+    (subst (λ z. Grows t (worded (closed (all_behind (if_head true cond) (printed xs)))) z) (sym (if_here (stmt_step true) cond ys [])) (under_head t (if_head true cond) (printed xs) (printed ys) h)))
+
 any_behind : (t : ℕ) (cs : List Compare) (xs ys : List Stmt) → Behind t (printed xs) (printed ys) → Behind t (printed (if_any cs xs)) (printed (if_any cs ys))
 any_behind t [] xs ys h = h
-any_behind t (c ∷ cs) xs ys h =
-    one_behind t (stmt_shape true (s.If (c ∷ cs) xs)) (stmt_shape true (s.If (c ∷ cs) ys))
-    (subst (λ z. Grows t z (stmt_shape true (s.If (c ∷ cs) ys))) (sym (if_here (stmt_step true) (c ∷ cs) xs))
-    (subst (λ z. Grows t (worded (closed (all_behind (if_head true (c ∷ cs)) (printed xs)))) z) (sym (if_here (stmt_step true) (c ∷ cs) ys)) (under_head t (if_head true (c ∷ cs)) (printed xs) (printed ys) h)))
+any_behind t (c ∷ cs) xs ys h = if_behind t (joins.all_of c cs) xs ys h
 
 guarded_behind : (t first more from : ℕ) (rs : List Round) (xs ys : List Stmt) → Behind t (printed xs) (printed ys) → Behind t (printed (guarded first more from rs xs)) (printed (guarded first more from rs ys))
 guarded_behind t first more from [] xs ys h = h
 guarded_behind t first more from (Loop iter low rel high ∷ rs) xs ys h =
-    any_behind t (loop_tests first more from (Loop iter low rel high)) (guarded first more (suc from) rs xs) (guarded first more (suc from) rs ys) (guarded_behind t first more (suc from) rs xs ys h)
-guarded_behind t first more from (Test conds ∷ rs) xs ys h =
-    any_behind t (loop_tests first more from (Test conds)) (guarded first more from rs xs) (guarded first more from rs ys) (guarded_behind t first more from rs xs ys h)
+    any_behind t (loop_tests first more from low rel high) (guarded first more (suc from) rs xs) (guarded first more (suc from) rs ys) (guarded_behind t first more (suc from) rs xs ys h)
+guarded_behind t first more from (Test cond ∷ rs) xs ys h =
+    if_behind t (moved_cond first more cond) (guarded first more from rs xs) (guarded first more from rs ys) (guarded_behind t first more from rs xs ys h)
 
 pub tested_grows : (first more from : ℕ) (rs : List Round) (b a : Assignment) → Grows 8320 (assign_line true b.subs b.value) (assign_line true a.subs a.value)
     → Grows 8320 (tested_shape first more from rs b) (tested_shape first more from rs a)

@@ -9,6 +9,7 @@ use Rattle.affc_rows.specs.Forms.{Affine}
 use Rattle.affc_ast.specs.Names.{is_reserved}
 use Rattle.affc_ast.specs.declared.tree.ArrayId.{ArrayId}
 use Rattle.affc_ast.specs.declared.tree.Compare.{Compare}
+use Rattle.affc_ast.specs.declared.tree.Cond.{Cond}
 use Rattle.affc_ast.specs.declared.tree.Decl.{Decl}
 use Rattle.affc_ast.specs.declared.tree.Ix.{Ix}
 use Rattle.affc_ast.specs.declared.tree.Ix.TheVariants.{Mod}
@@ -22,11 +23,12 @@ use Rattle.affc_ast.specs.declared.tree.Val.{Val}
 use Rattle.affc_ast.specs.declared.tree.Val.TheVariants as v
 use Rattle.affc_ast.specs.declared.tree.Val.TheBlock.{more_of-Val, end_of-Val}
 use Rattle.affc_ast.specs.Meaning.{arrays_of}
+use Rattle.affc_ast.specs.Pieces.{comparisons_of}
 use Rattle.affc_ast.specs.Recursion.{by_val, by_stmt, by_each}
 use Rattle.affc_ast.proofs.Steps.{mod_here, not_here, bin_here, shift_here, for_here, if_here, block_here, row_of, unrolled}
 use Rattle.affc_trace.specs.Target.{numbers_in}
 use Rattle.affc_domain.specs.Plain as domain
-use Rattle.affc_domain.specs.Plain.{IsPlain, all_plain, plain_value, plain_tests, is_upward, all_of, plain_step}
+use Rattle.affc_domain.specs.Plain.{IsPlain, all_plain, plain_value, plain_cond, is_upward, all_of, plain_step}
 use Rattle.affc_domain.specs.Accesses.{accesses_of}
 use Rattle.affc_domain.specs.Ranges.{number_ranges}
 use Rattle.affc_domain.proofs.Lists.{both_true}
@@ -35,16 +37,17 @@ use Rattle.affc_grammar.specs.Names.{is_time_name}
 use Rattle.affc_cprint.specs.Forms.{is_none}
 use Rattle.affc_cprint.proofs.ReadBackValues.{Each}
 use Rattle.affc_wellnamed.specs.Known as known
-use Rattle.affc_wellnamed.specs.Known.{Known, and_iterator, and_locals, is_new, is_bound, ix_step, ix_known, ixs_known, compares_known, takes, value_step, value_known, all_at, for_known, if_known, assign_known, block_known, stmt_known, is_temp, is_number, number_count, param_name, param_arrays, known_behind, extents_known, param_known, params_known, temp_known, temps_known, is_function, context_known, program_known}
+use Rattle.affc_wellnamed.specs.Known.{Known, and_iterator, and_locals, is_new, is_bound, ix_step, ix_known, ixs_known, compares_known, cond_known, takes, value_step, value_known, all_at, for_known, assign_known, block_known, stmt_known, is_temp, is_number, number_count, param_name, param_arrays, known_behind, extents_known, param_known, params_known, temp_known, temps_known, is_function, context_known, program_known}
 use Rattle.affc_domain.proofs.RangeLemmas.{numbers_are}
 use Rattle.affc_loopprint.proofs.KnownHeads as heads
+use Rattle.affc_loopprint.proofs.Conditions.{cond_wider}
 use Rattle.affc_loopprint.proofs.Moved.{wider, all_wider, tests_wider}
 use Rattle.affc_loopprint.proofs.Sums.{sums_known}
 use Rattle.affc_basis.specs.declared.fold.Fold.{Fold}
 use Rattle.affc_basis.specs.FoldLists.{AreFoldsIn}
 use Rattle.affc_basis.specs.Folds.{forms_of}
 use Rattle.affc_foldloops.specs.Refolds.{Subscripts, refold_value, refold_step, each_under}
-use Rattle.affc_rewrite.specs.Rewrite.{printed, decl_by, decls_from, extent_forms, fold_at_work, folded_temps, folded_subscripts, call_step, has_call, some_call, value_call_step, test_calls, stmt_call_step, folded_program, KeepLimits}
+use Rattle.affc_rewrite.specs.Rewrite.{printed, decl_by, decls_from, extent_forms, fold_at_work, folded_temps, folded_subscripts, call_step, has_call, some_call, value_call_step, cond_calls, stmt_call_step, folded_program, KeepLimits}
 use Rattle.affc_rewrite.specs.Sizes.{IsPrintable}
 use Rattle.affc_foldprint.proofs.Components.{RemainderOf, at_have, moduli_are}
 use Rattle.affc_foldprint.proofs.KnownArrays.{same_arrays, fold_takes}
@@ -86,6 +89,9 @@ module _ (prelude : Bool) (old new : Known) (a : Alike prelude old new) where
 
   tests_more : (cs : List Compare) → compares_known old cs ≡ true → compares_known new cs ≡ true
   tests_more cs h = tests_wider old new calls no_fewer cs h
+
+  cond_more : (cond : Cond) → cond_known old cond ≡ true → cond_known new cond ≡ true
+  cond_more cond h = cond_wider old new calls no_fewer cond h
 
   new_more : (it : Bool) (w : Name) → is_new old it w ≡ true → is_new new it w ≡ true
   new_more it w h =
@@ -201,13 +207,20 @@ module _ (source : Program) (folds : List (ArrayId × Fold)) (plain : IsPlain so
           (row_known body (suc n) (suc k) c (and_iterator old iter) (and_iterator new iter)
           (record { alike = iterator_alike prelude old new i.alike iter; count = (omega (arith, count)); arrays = i.arrays; new_arrays = i.new_arrays }) (omega (arith, e)) (omega (arith, less)) b.1 p.1
           (λ z. on (for_here stmt_call_step iter low rel high ys ∙ or_right (has_call low) _ (or_right (has_call high) (some (calls_in ys)) z))))
-      fold_known (s.If' conds shape body) n k c old new i e l g h on =
+      fold_known (s.If' cond shape body shape' other) n k c old new i e l g h on =
+          let d = c + comparisons_of cond in
+          let a = both_true (plain_cond (numbers + k) cond) _ g in
+          let b = both_true (all_of (by_each (plain_step numbers) body) k d) (all_of (by_each (plain_step numbers) other) k d) a.1 in
           let ys = each_under (by_each (refold_step fresh) body) n in
-          let p = and_parts (if_known old conds) (all_at old (by_each known.stmt_step body)) h in
-          let q = and_parts (not (is_none conds)) (compares_known old conds) p.0 in
-          ap (λ (f : Known → Bool). f new) (if_here known.stmt_step conds ys)
-          ∙ and_from _ _ (and_from _ _ q.0 (tests_more prelude old new i.alike conds q.1))
-          (row_known body n k (c + length conds) old new i e l (both_true (plain_tests (numbers + k) conds) _ g).1 p.1 (λ z. on (if_here stmt_call_step conds ys ∙ or_right (list_any test_calls conds) (some (calls_in ys)) z)))
+          let zs = each_under (by_each (refold_step fresh) other) n in
+          let p = and_parts (cond_known old cond) _ h in
+          let q = and_parts (all_at old (by_each known.stmt_step body)) (all_at old (by_each known.stmt_step other)) p.1 in
+          let called = if_here stmt_call_step cond ys zs in
+          ap (λ (f : Known → Bool). f new) (if_here known.stmt_step cond ys zs)
+          ∙ and_from _ _ (cond_more prelude old new i.alike cond p.0)
+          (and_from _ _
+          (row_known body n k d old new i e l b.0 q.0 (λ z. on (called ∙ or_right (cond_calls cond) (some (calls_in ys) || some (calls_in zs)) (or_left (some (calls_in ys)) (some (calls_in zs)) z))))
+          (row_known other n k d old new i e l b.1 q.1 (λ z. on (called ∙ or_right (cond_calls cond) (some (calls_in ys) || some (calls_in zs)) (or_right (some (calls_in ys)) (some (calls_in zs)) z)))))
       fold_known (s.Assign op array subs value) n k c old new i e l g h on =
           let d = both_true (nat_le c 32) _ g in
           let a = both_true (nat_le (length (accesses_of (record { op = op; array = array; subs = subs; value = value }))) 16) _ d.1 in

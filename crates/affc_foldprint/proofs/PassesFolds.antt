@@ -7,6 +7,7 @@ use Rattle.affc_rows.specs.Forms.{Affine}
 use Rattle.affc_ast.specs.declared.tree.ArrayId.{ArrayId}
 use Rattle.affc_ast.specs.declared.tree.Decl.{Decl}
 use Rattle.affc_ast.specs.declared.tree.Ix.{Ix}
+use Rattle.affc_ast.specs.declared.tree.Op.{Op}
 use Rattle.affc_ast.specs.declared.tree.Ix.TheVariants.{Mod}
 use Rattle.affc_ast.specs.declared.tree.Program.{Program}
 use Rattle.affc_ast.specs.declared.tree.Stmt.{Stmt}
@@ -18,19 +19,21 @@ use Rattle.affc_ast.specs.declared.tree.Val.{Val}
 use Rattle.affc_ast.specs.declared.tree.Val.TheVariants as v
 use Rattle.affc_ast.specs.declared.tree.Val.TheBlock.{more_of-Val, end_of-Val}
 use Rattle.affc_ast.specs.Meaning.{arrays_of}
+use Rattle.affc_ast.specs.Fits.{all_true}
+use Rattle.affc_ast.specs.Pieces.{comparisons_of}
 use Rattle.affc_ast.specs.Recursion.{by_stmt, by_each}
 use Rattle.affc_ast.proofs.Steps.{mod_here, not_here, bin_here, shift_here, for_here, if_here, block_here, row_of, unrolled}
 use Rattle.affc_trace.specs.Target.{numbers_in}
 use Rattle.affc_domain.specs.Plain as domain
-use Rattle.affc_domain.specs.Plain.{IsPlain, all_plain, plain_value, plain_tests, is_upward, all_of, plain_step}
+use Rattle.affc_domain.specs.Plain.{IsPlain, all_plain, plain_value, plain_cond, is_upward, all_of, plain_step}
 use Rattle.affc_domain.specs.Accesses.{accesses_of}
 use Rattle.affc_domain.specs.Ranges.{number_ranges}
 use Rattle.affc_domain.proofs.Lists.{both_true, length_map}
-use Rattle.affc_cprint.specs.Forms.{form, form_step, compare_passes, value_step, value_passes, param_passes, decl_passes, stmt_step, stmt_passes, program_passes}
+use Rattle.affc_cprint.specs.Forms.{form, form_step, compare_passes, cond_passes, value_step, value_passes, param_passes, decl_passes, stmt_step, stmt_passes, program_passes}
 use Rattle.affc_cprint.proofs.ReadBackValues.{Each}
 use Rattle.affc_wellnamed.specs.Plain.{is_plain}
 use Rattle.affc_wellnamed.specs.Work as works
-use Rattle.affc_wellnamed.specs.Work.{load_step, loads, one_work, no_work, work, stmts_behind, is_bounded, param_fits, has_few, program_fits}
+use Rattle.affc_wellnamed.specs.Work.{load_step, loads, one_work, no_work, stmts_behind, is_bounded, param_fits, has_few, fits_step, stmt_fits, program_fits}
 use Rattle.affc_wellnamed.specs.Known.{number_count}
 use Rattle.affc_wellnamed.specs.Shape.{plus}
 use Rattle.affc_domain.proofs.RangeLemmas.{numbers_are}
@@ -124,9 +127,14 @@ module _ (source : Program) (folds : List (ArrayId × Fold)) (plain : IsPlain so
         let q = and_parts (is_plain high) (all (by_each passes body)) p.1 in
         for_here passes iter low rel high (each_under (by_each (refold_step fresh) body) (suc n))
         ∙ and_from _ _ p.0 (and_from _ _ q.0 (row_plain body (suc n) (suc k) c (omega (arith, e)) (omega (arith, less)) b.1 q.1))
-    stmt_plain (s.If' conds shape body) n k c e l g h =
-        let p = and_parts (list_all (compare_passes is_plain) conds) (all (by_each passes body)) h in
-        if_here passes conds (each_under (by_each (refold_step fresh) body) n) ∙ and_from _ _ p.0 (row_plain body n k (c + length conds) e l (both_true (plain_tests (numbers + k) conds) _ g).1 p.1)
+    stmt_plain (s.If' cond shape body shape' other) n k c e l g h =
+        let d = c + comparisons_of cond in
+        let a = both_true (plain_cond (numbers + k) cond) _ g in
+        let b = both_true (all_of (by_each (plain_step numbers) body) k d) (all_of (by_each (plain_step numbers) other) k d) a.1 in
+        let p = and_parts (cond_passes is_plain cond) _ h in
+        let q = and_parts (all (by_each passes body)) (all (by_each passes other)) p.1 in
+        if_here passes cond (each_under (by_each (refold_step fresh) body) n) (each_under (by_each (refold_step fresh) other) n)
+        ∙ and_from _ _ p.0 (and_from _ _ (row_plain body n k d e l b.0 q.0) (row_plain other n k d e l b.1 q.1))
     stmt_plain (s.Assign op array subs value) n k c e l g h =
         let d = both_true (nat_le c 32) _ g in
         let a = both_true (nat_le (length (accesses_of (record { op = op; array = array; subs = subs; value = value }))) 16) _ d.1 in
@@ -191,21 +199,26 @@ module _ (at : Subscripts) where
       bin_here load_step op (refold_value at n a) (refold_value at n b) ∙ ap (λ z. plus z (loads (refold_value at n b))) (fold_loads n a) ∙ ap (plus (loads a)) (fold_loads n b)
   fold_loads n (v.Shift' left s (more_of-Val a end_of-Val) by) = shift_here load_step left (refold_value at n a) by ∙ fold_loads n a
 
-  mutual
-    stmt_work : (x : Stmt) (n : ℕ) → work (by_stmt (refold_step at) x n) ≡ work x
-    stmt_work (s.For' iter low rel high shape body) n =
-        for_here works.stmt_step iter low rel high (each_under (by_each (refold_step at) body) (suc n)) ∙ ap (λ l. works.stmt_step (layer.For iter low rel high l)) (row_work body (suc n))
-    stmt_work (s.If' conds shape body) n = if_here works.stmt_step conds (each_under (by_each (refold_step at) body) n) ∙ ap (λ l. works.stmt_step (layer.If conds l)) (row_work body n)
-    stmt_work (s.Assign op array subs value) n = ap (one_work op) (fold_loads n value)
-    stmt_work (s.Block' locals shape body) n =
-        block_here works.stmt_step locals (each_under (by_each (refold_step at) body) (n + length locals)) ∙ ap (λ l. works.stmt_step (layer.Block locals l)) (row_work body (n + length locals))
+  -- what is counted or tested of a statement, where it is the same of its assignments
+  module _ {A : Type 0} (f : Stmt-F A → A)
+      (assigns : (op : Option Op) (array : ArrayId) (subs : List Ix) (value : Val) (n : ℕ) → f (layer.Assign op array (at n array subs) (refold_value at n value)) ≡ f (layer.Assign op array subs value)) where
+    mutual
+      stmt_same : (x : Stmt) (n : ℕ) → by_stmt f (by_stmt (refold_step at) x n) ≡ by_stmt f x
+      stmt_same (s.For' iter low rel high shape body) n =
+          for_here f iter low rel high (each_under (by_each (refold_step at) body) (suc n)) ∙ ap (λ l. f (layer.For iter low rel high l)) (row_same body (suc n))
+      stmt_same (s.If' cond shape body shape' other) n =
+          if_here f cond (each_under (by_each (refold_step at) body) n) (each_under (by_each (refold_step at) other) n)
+          ∙ ap (λ l. f (layer.If cond l (map (by_stmt f) (each_under (by_each (refold_step at) other) n)))) (row_same body n) ∙ ap (λ l. f (layer.If cond (by_each f body) l)) (row_same other n)
+      stmt_same (s.Assign op array subs value) n = assigns op array subs value n
+      stmt_same (s.Block' locals shape body) n =
+          block_here f locals (each_under (by_each (refold_step at) body) (n + length locals)) ∙ ap (λ l. f (layer.Block locals l)) (row_same body (n + length locals))
 
-    row_work : {m : _} (body : Row_of-Stmt m) (n : ℕ) → map work (each_under (by_each (refold_step at) body) n) ≡ by_each works.stmt_step body
-    row_work end_of-Stmt n = refl
-    row_work (more_of-Stmt x rest) n = ap (λ y. y ∷ map work (each_under (by_each (refold_step at) rest) n)) (stmt_work x n) ∙ ap (λ l. work x ∷ l) (row_work rest n)
+      row_same : {m : _} (body : Row_of-Stmt m) (n : ℕ) → map (by_stmt f) (each_under (by_each (refold_step at) body) n) ≡ by_each f body
+      row_same end_of-Stmt n = refl
+      row_same (more_of-Stmt x rest) n = ap (λ y. y ∷ map (by_stmt f) (each_under (by_each (refold_step at) rest) n)) (stmt_same x n) ∙ ap (λ l. by_stmt f x ∷ l) (row_same rest n)
 
-  body_work : (body : List Stmt) (n : ℕ) → map work (each_under (map (by_stmt (refold_step at)) body) n) ≡ map work body
-  body_work body n = ap (λ fs. map work (each_under fs n)) (unrolled (refold_step at) body) ∙ row_work (row_of body) n ∙ sym (unrolled works.stmt_step body)
+    body_same : (body : List Stmt) (n : ℕ) → map (by_stmt f) (each_under (map (by_stmt (refold_step at)) body) n) ≡ map (by_stmt f) body
+    body_same body n = ap (λ fs. map (by_stmt f) (each_under fs n)) (unrolled (refold_step at) body) ∙ row_same (row_of body) n ∙ sym (unrolled f body)
 
 decl_few : (parameters : ℕ) (d : Decl) → has_few d ≡ true → (o : Option Fold) → has_few (decl_by o parameters d) ≡ true
 decl_few parameters d h None = h
@@ -225,8 +238,13 @@ decls_few parameters extents folds array (d ∷ ds) h =
 pub folded_fits : (source : Program) (folds : List (ArrayId × Fold)) → program_fits source ≡ true → program_fits (folded_program source folds) ≡ true
 folded_fits source folds h =
     let p = and_parts (nat_le (number_count source.params) 4 && nat_le (length source.context) 16) _ h in
-    let q = and_parts (list_all param_fits source.params && list_all has_few source.temps) (is_bounded (stmts_behind no_work source.body)) p.1 in
+    let q = and_parts (list_all param_fits source.params && list_all has_few source.temps) (is_bounded (stmts_behind no_work source.body) && all_true (map stmt_fits source.body)) p.1 in
+    let t = and_parts (is_bounded (stmts_behind no_work source.body)) (all_true (map stmt_fits source.body)) q.1 in
+    let fresh = folded_subscripts source folds in
+    let first = numbers_in source.params in
     let r = and_parts (list_all param_fits source.params) (list_all has_few source.temps) q.0 in
     and_from _ _ p.0
     (and_from _ _ (and_from _ _ r.0 (decls_few (numbers_in source.params) (extent_forms source) folds (length (arrays_of source.params)) source.temps r.1))
-    (ap (λ ws. is_bounded (works.all_behind no_work ws)) (body_work (folded_subscripts source folds) source.body (numbers_in source.params)) ∙ q.1))
+    (and_from (is_bounded (stmts_behind no_work (folded_program source folds).body)) _
+    (ap (λ ws. is_bounded (works.all_behind no_work ws)) (body_same fresh works.stmt_step (λ op array subs value n. ap (one_work op) (fold_loads fresh n value)) source.body first) ∙ t.0)
+    (ap all_true (body_same fresh fits_step (λ op array subs value n. refl) source.body first) ∙ t.1)))

@@ -1,4 +1,4 @@
--- With folds a program that reads without the prelude has room for loops.
+-- With folds a bare program that a text reads as has room for loops.
 use Rattle.std.proofs.Common.{◌≡◌, ℕ, zero, suc, ◌+◌, ◌*◌, ◌≤◌, Bool, true, false, List, [], ◌∷◌, length, map, Option, Some, None, refl, sym, ap, subst, ◌∙◌, arith}
 use Rattle.std.specs.Prelude.{slice_get}
 use Rattle.std.proofs.lemmas.Bool.{and_from, le-leb}
@@ -224,9 +224,10 @@ module _ (source : Program) (folds : List (ArrayId × Fold)) (plain : IsPlain so
       }
 
 pub folds_spare : FoldsSpare
-folds_spare text source folds r off are limits =
-    let own = reads_spare text source r off in
-    let plain = reads_plain text source r off in
+folds_spare text source folds r is_bare are limits =
+    let off = is_bare.prelude in
+    let own = reads_spare text source r is_bare in
+    let plain = reads_plain text source r is_bare in
     let known = folded_known source folds plain are limits off own.known in
     let shape = refolded_keeps_shape (folded_subscripts source folds) (folded_temps source folds) source in
     record {
@@ -235,5 +236,5 @@ folds_spare text source folds r off are limits =
       fits = folded_fits source folds own.fits;
       bare = ap (λ b. b) shape.same_locals ∙ own.bare;
       iterators = λ k rs e. own.iterators k rs (ap (λ rss. slice_get rss k) (sym (folded_loops source folds).same_rounds) ∙ e);
-      short = short source folds plain are limits (reads_parts text source r off) known;
+      short = short source folds plain are limits (reads_parts text source r is_bare) known;
     }

@@ -1,5 +1,5 @@
 -- A program with folds is scanned, and printed, as its source is.
-use Rattle.std.specs.Prelude.{◌≡◌, ℕ, false, List, [], ◌∷◌}
+use Rattle.std.specs.Prelude.{◌≡◌, ℕ, List, [], ◌∷◌}
 use Rattle.affc_ast.specs.declared.tree.ArrayId.{ArrayId}
 use Rattle.affc_ast.specs.declared.tree.Program.{Program}
 use Rattle.affc_grammar.specs.Reads.{Reads, WellNamed}
@@ -10,6 +10,7 @@ use Rattle.affc_trace.specs.declared.schedule.TimeMap.{TimeMap}
 use Rattle.affc_trace.specs.Laws.{in_target_order}
 use Rattle.affc_nest.specs.declared.nest.Nest.{Nest}
 use Rattle.affc_nest.specs.Nests.{nest_of}
+use Rattle.affc_plain.specs.Laws.{IsBare}
 use Rattle.affc_loops.specs.Laws.{HasLoops}
 use Rattle.affc_loops.specs.Loops.{Scheduled, scheduled}
 use Rattle.affc_loopends.specs.declared.scanned.scanned.Scanned.{Scanned}
@@ -28,15 +29,15 @@ abbrev pub FoldsAreScanned : Type 0
 FoldsAreScanned = (source : Program) (nest : Nest) (schedule : Schedule) (folds : List (ArrayId × Fold))
     → HasLoops source schedule → AreFoldsIn source folds → nest ≡ nest_of source → IsNestFor (folded_program source folds) nest schedule
 
--- Where a text without the prelude reads as the source, the folded program has room for loops.
+-- Where a text reads as the source, which is bare, the folded program has room for loops.
 abbrev pub FoldsSpare : Type 0
 FoldsSpare = (text : List ℕ) (source : Program) (folds : List (ArrayId × Fold))
-    → Reads text source → source.prelude ≡ false → AreFoldsIn source folds → KeepLimits source folds → IsSpare (folded_program source folds)
+    → Reads text source → IsBare source → AreFoldsIn source folds → KeepLimits source folds → IsSpare (folded_program source folds)
 
 -- So its loops, as they are scanned, are well named.
 abbrev pub FoldsWellNamed : Type 0
 FoldsWellNamed = (text : List ℕ) (source : Program) (schedule : Schedule) (folds : List (ArrayId × Fold)) (s : Scanned)
-    → Reads text source → source.prelude ≡ false → HasLoops source schedule → AreFoldsIn source folds → KeepLimits source folds
+    → Reads text source → IsBare source → HasLoops source schedule → AreFoldsIn source folds → KeepLimits source folds
     → Scans (folded_program source folds) schedule s → WellNamed s.program
 
 -- ---- What they do

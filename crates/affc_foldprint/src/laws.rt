@@ -9,7 +9,7 @@ pub fn folds_are_scanned()
     ensures law { FoldsAreScanned }
 {}
 
-/// Where a text without the prelude reads as the source, the folded program has room for loops.
+/// Where a text reads as the source, which is bare, the folded program has room for loops.
 pub fn folds_spare()
     ensures law { FoldsSpare }
 {}

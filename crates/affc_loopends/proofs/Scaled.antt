@@ -13,9 +13,10 @@ use Rattle.affc_farkas.specs.Rational.{scaled_value}
 use Rattle.affc_farkas.proofs.Between.{swap}
 use Rattle.affc_farkas.proofs.Points.{scaled_value-mixed}
 use Rattle.affc_eliminate.proofs.Rooms.{mul-neg}
+use Rattle.affc_eliminate.proofs.project.Points.{itself}
 use Rattle.affc_ast.specs.declared.tree.Ix.{Ix}
 use Rattle.affc_ast.specs.declared.tree.Rel.{Rel}
-use Rattle.affc_ast.specs.declared.tree.Rel.TheVariants.{Less, LessEqual, Greater, GreaterEqual, Equal}
+use Rattle.affc_ast.specs.declared.tree.Rel.TheVariants.{Less, LessEqual, Greater, GreaterEqual, Equal, NotEqual}
 use Rattle.affc_domain.specs.Affine.{form_of}
 use Rattle.affc_domain.proofs.FormLemmas.{form_width, column_value, number_value}
 use Rattle.affc_nest.specs.Domains.{gap_row, compare_rows, column_form, number_form}
@@ -92,6 +93,7 @@ compare_held x d Less a b u v p q f g = let h = less_held x d a b u v p q f g in
 compare_held x d LessEqual a b u v p q f g = let h = at_most_held x d a b u v p q f g in ((λ m. h.0 m.0), (λ m. (h.1 m, tt)))
 compare_held x d Greater a b u v p q f g = let h = less_held x d b a v u q p g f in ((λ m. h.0 m.0), (λ m. (h.1 m, tt)))
 compare_held x d GreaterEqual a b u v p q f g = let h = at_most_held x d b a v u q p g f in ((λ m. h.0 m.0), (λ m. (h.1 m, tt)))
+compare_held x d NotEqual a b u v p q f g = itself (Unit {0})
 compare_held x d Equal a b u v p q f g =
     let h = at_most_held x d a b u v p q f g in
     let k = at_most_held x d b a v u q p g f in (

@@ -7,6 +7,7 @@ use Rattle.affc_eliminate.proofs.project.Points.{both_ways, itself}
 use Rattle.affc_ast.specs.declared.tree.Compare.{Compare}
 use Rattle.affc_ast.specs.declared.tree.Ix.{Ix}
 use Rattle.affc_ast.specs.declared.tree.Rel.{Rel}
+use Rattle.affc_ast.specs.Joined.{tests_of}
 use Rattle.affc_domain.specs.Affine.{form_of}
 use Rattle.affc_domain.specs.Rounds.{Round, Loop, Test, loops_in}
 use Rattle.affc_domain.proofs.FormLemmas.{form_width, number_width}
@@ -114,10 +115,10 @@ turns_held d (Loop iter low rel high ∷ rs) (r ∷ boxes) names (x ∷ xs) zs n
           let rest = later.1 (h.0.2, h.1.2) in
           (one.1 (bounds.1 (h.0.0, h.0.1), two.1 (range.1 (h.1.0, h.1.1), rest.0)), rest.1)),
     )
-turns_held d (Test conds ∷ rs) boxes names xs zs n is front l e =
-    let tests = tests_held d names xs zs n (loops_in rs) is front l conds in
+turns_held d (Test cond ∷ rs) boxes names xs zs n is front l e =
+    let tests = tests_held d names xs zs n (loops_in rs) is front l (tests_of cond) in
     let later = turns_held d rs boxes names xs zs n is front l e in
-    let split = held_append zs d (test_rows n (loops_in rs) conds) (condition_rows n rs) in (
+    let split = held_append zs d (test_rows n (loops_in rs) (tests_of cond)) (condition_rows n rs) in (
       (λ h. let a = split.0 h.1 in let rest = later.0 (h.0, a.1) in ((tests.0 a.0, rest.0), rest.1)),
       (λ h. let rest = later.1 (h.0.1, h.1) in (rest.0, split.1 (tests.1 h.0.0, rest.1))),
     )

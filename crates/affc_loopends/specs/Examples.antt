@@ -2,6 +2,7 @@
 use Rattle.std.specs.Prelude.{◌≡◌, ℕ, ℤ, pos, negsuc, List, [], ◌∷◌}
 use Rattle.std.specs.List.{Contains}
 use Rattle.affc_rows.specs.Forms.{Affine}
+use Rattle.affc_ast.specs.declared.tree.Cond.TheVariants as cond
 use Rattle.affc_ast.specs.declared.tree.Ix.{Ix}
 use Rattle.affc_ast.specs.declared.tree.Ix.TheVariants.{Lit, Name, Add}
 use Rattle.affc_ast.specs.declared.tree.Rel.TheVariants.{Less, LessEqual, Equal}
@@ -171,7 +172,7 @@ abbrev pub half : Timed
 half = record {
   params = (pos 1, pos 9) ∷ [];
   context = [];
-  around = Loop [] (lit 0) LessEqual (lit 9) ∷ Test (record { rel = Equal; left = Add (name 1) (name 1); right = name 0 } ∷ []) ∷ [];
+  around = Loop [] (lit 0) LessEqual (lit 9) ∷ Test (cond.Compare Equal (Add (name 1) (name 1)) (name 0)) ∷ [];
   ranges = (pos 0, pos 9) ∷ [];
   times = row (pos 0 ∷ pos 1 ∷ []) (pos 0) ∷ [];
   inverse = row (pos 0 ∷ pos 1 ∷ []) (pos 0) ∷ [];

@@ -7,7 +7,8 @@ use Rattle.affc_ast.specs.declared.tree.Compare.{Compare}
 use Rattle.affc_ast.specs.declared.tree.Ix.{Ix}
 use Rattle.affc_ast.specs.declared.tree.Program.{Program}
 use Rattle.affc_ast.specs.declared.tree.Rel.{Rel}
-use Rattle.affc_ast.specs.declared.tree.Rel.TheVariants.{Less, LessEqual, Greater, GreaterEqual, Equal}
+use Rattle.affc_ast.specs.declared.tree.Rel.TheVariants.{Less, LessEqual, Greater, GreaterEqual, Equal, NotEqual}
+use Rattle.affc_ast.specs.Joined.{tests_of}
 use Rattle.affc_trace.specs.declared.schedule.TimeMap.{TimeMap}
 use Rattle.affc_domain.specs.Affine.{form_of}
 use Rattle.affc_domain.specs.Ranges.{number_ranges}
@@ -19,15 +20,16 @@ use Rattle.affc_domain.specs.Rounds.{Round, Loop, Test, loops_in}
 abbrev pub scaled_at : (names : List ℤ) (d : ℤ) → Ix → ℤ
 scaled_at names d e = scaled_value (form_of (length names) 0 e) names d
 
--- a / d and b / d are so related; "<" asks for a difference of 1, as it does of whole numbers
+-- a / d and b / d are so related; "<" asks for a difference of 1, as it does of whole numbers, and "!=", which no half-spaces say, asks for nothing
 abbrev pub AreRelated : (d : ℤ) → Rel → (a b : ℤ) → Type 0
 AreRelated d Less a b = (a +ℤ d) ≤ℤ b
 AreRelated d LessEqual a b = a ≤ℤ b
 AreRelated d Greater a b = (b +ℤ d) ≤ℤ a
 AreRelated d GreaterEqual a b = b ≤ℤ a
 AreRelated d Equal a b = a ≡ b
+AreRelated d NotEqual a b = Unit {0}
 
--- the conditions hold
+-- the comparisons hold
 abbrev pub HoldAll : (names : List ℤ) (d : ℤ) → List Compare → Type 0
 HoldAll names d [] = Unit {0}
 HoldAll names d (c ∷ cs) = AreRelated d c.rel (scaled_at names d c.left) (scaled_at names d c.right) × HoldAll names d cs
@@ -39,13 +41,13 @@ LieWithin d [] (x ∷ xs) = ⊥
 LieWithin d (r ∷ rs) [] = ⊥
 LieWithin d (r ∷ rs) (x ∷ xs) = ((d *ℤ r.0) ≤ℤ x) × (x ≤ℤ (d *ℤ r.1)) × LieWithin d rs xs
 
--- there is an iterator for each loop, over d it lies within the loop's bounds, and all conditions hold
+-- there is an iterator for each loop, over d it lies within the loop's bounds, and the comparisons that are joined in the conditions hold
 abbrev pub Turn : (d : ℤ) → List Round → (names iterators : List ℤ) → Type 0
 Turn d [] names [] = Unit {0}
 Turn d [] names (x ∷ xs) = ⊥
 Turn d (Loop iter low rel high ∷ rs) names [] = ⊥
 Turn d (Loop iter low rel high ∷ rs) names (x ∷ xs) = (scaled_at names d low ≤ℤ x) × AreRelated d rel x (scaled_at names d high) × Turn d rs (names ++ x ∷ []) xs
-Turn d (Test conds ∷ rs) names xs = HoldAll names d conds × Turn d rs names xs
+Turn d (Test cond ∷ rs) names xs = HoldAll names d (tests_of cond) × Turn d rs names xs
 
 -- ---- Time points
 

@@ -3,7 +3,7 @@ use Rattle.std.proofs.Common.{◌≡◌, ℕ, zero, suc, List, [], ◌∷◌, �
 use Rattle.std.specs.Prelude.{slice_get}
 use Rattle.std.proofs.lemmas.Option.{none-some, same_Some}
 use Rattle.affc_ast.specs.declared.tree.ArrayId.{ArrayId}
-use Rattle.affc_ast.specs.declared.tree.Compare.{Compare}
+use Rattle.affc_ast.specs.declared.tree.Cond.{Cond}
 use Rattle.affc_ast.specs.declared.tree.Ix.{Ix}
 use Rattle.affc_ast.specs.declared.tree.Local.{Local}
 use Rattle.affc_ast.specs.declared.tree.Op.{Op}
@@ -11,6 +11,7 @@ use Rattle.affc_ast.specs.declared.tree.Rel.{Rel}
 use Rattle.affc_ast.specs.declared.tree.Stmt.{Stmt}
 use Rattle.affc_ast.specs.declared.tree.Stmt.TheVariants.{For, If, Assign, Block}
 use Rattle.affc_ast.specs.declared.tree.Val.{Val}
+use Rattle.affc_ast.specs.Denials.{denied}
 use Rattle.affc_ast.specs.Recursion.{by_stmt}
 use Rattle.affc_ast.specs.Trace.{Assignment, assignments_step, joined}
 use Rattle.affc_domain.specs.Rounds.{Round, Loop, Test, rounds_step}
@@ -58,7 +59,8 @@ assigned op array subs value = record { op = op; array = array; subs = subs; val
 pub record Walk {X : Type 0} (P : X → Stmt → Type 0) (Q : X → List Round → Assignment → Type 0) (under : X → List ℕ → X) : Type 0 where
   pub loop : (x : X) (iter : List ℕ) (low : Ix) (rel : Rel) (high : Ix) (body : List Stmt) → P x (For iter low rel high body)
       → Each (P (under x iter)) body × ((rs : List Round) (a : Assignment) → Q (under x iter) rs a → Q x (Loop iter low rel high ∷ rs) a)
-  pub test : (x : X) (cs : List Compare) (body : List Stmt) → P x (If cs body) → Each (P x) body × ((rs : List Round) (a : Assignment) → Q x rs a → Q x (Test cs ∷ rs) a)
+  pub test : (x : X) (cond : Cond) (body other : List Stmt) → P x (If cond body other)
+      → Each (P x) body × ((rs : List Round) (a : Assignment) → Q x rs a → Q x (Test cond ∷ rs) a) × Each (P x) other × ((rs : List Round) (a : Assignment) → Q x rs a → Q x (Test (denied cond) ∷ rs) a)
   pub assign : (x : X) (op : Option Op) (array : ArrayId) (subs : List Ix) (value : Val) → P x (Assign op array subs value) → Q x [] (assigned op array subs value)
   pub block : (x : X) (ls : List Local) (body : List Stmt) → P x (Block ls body) → Each (P x) body
 
@@ -84,10 +86,15 @@ module _ {X : Type 0} (P : X → Stmt → Type 0) (Q : X → List Round → Assi
         let p = w.loop x iter low rel high body h in
         at x (For iter low rel high body) _ _ (for_here rounds_step iter low rel high body) (for_here assignments_step iter low rel high body)
         (two_mapped (Q (under x iter)) (Q x) (λ rs. Loop iter low rel high ∷ rs) p.1 (joined (map (by_stmt rounds_step) body)) (joined (map (by_stmt assignments_step) body)) (inside (under x iter) body p.0 each));
-    test = λ cs body each x h.
-        let p = w.test x cs body h in
-        at x (If cs body) _ _ (if_here rounds_step cs body) (if_here assignments_step cs body)
-        (two_mapped (Q x) (Q x) (λ rs. Test cs ∷ rs) p.1 (joined (map (by_stmt rounds_step) body)) (joined (map (by_stmt assignments_step) body)) (inside x body p.0 each));
+    test = λ cond body other each each' x h.
+        let p = w.test x cond body other h in
+        let rss = joined (map (by_stmt rounds_step) body) in
+        let rss' = joined (map (by_stmt rounds_step) other) in
+        let as' = joined (map (by_stmt assignments_step) body) in
+        let bs = joined (map (by_stmt assignments_step) other) in
+        at x (If cond body other) _ _ (if_here rounds_step cond body other) (if_here assignments_step cond body other)
+        (two_append (Q x) (map (λ rs. Test cond ∷ rs) rss) (map (λ rs. Test (denied cond) ∷ rs) rss') as' bs
+        (two_mapped (Q x) (Q x) (λ rs. Test cond ∷ rs) p.1 rss as' (inside x body p.0 each)) (two_mapped (Q x) (Q x) (λ rs. Test (denied cond) ∷ rs) p.3 rss' bs (inside x other p.2 each')));
     assign = λ op array subs value x h. (w.assign x op array subs value h, tt);
     block = λ ls body each x h. at x (Block ls body) _ _ (block_here rounds_step ls body) (block_here assignments_step ls body) (inside x body (w.block x ls body h) each);
   })

@@ -1,5 +1,5 @@
 -- What is known of a program's body, by its assignments and what stands round each.
-use Rattle.std.proofs.Common.{◌≡◌, ℕ, ◌+◌, Bool, true, false, not, ◌&&◌, IsTrue, List, [], ◌∷◌, map, Some, refl, sym, ap, ◌∙◌, arith}
+use Rattle.std.proofs.Common.{◌≡◌, ℕ, ◌+◌, ◌≤◌, Bool, true, false, not, ◌&&◌, IsTrue, List, [], ◌∷◌, length, map, Some, refl, sym, ap, ◌∙◌, arith}
 use Rattle.std.specs.Prelude.{slice_get}
 use Rattle.std.proofs.lemmas.Bool.{and_parts, false≢true}
 use Rattle.affc_ast.specs.declared.tree.Local.{Local}
@@ -10,18 +10,19 @@ use Rattle.affc_ast.specs.declared.tree.Stmt.TheVariants.{Block}
 use Rattle.affc_ast.specs.Locals.{all_true, plain_step, has_no_locals}
 use Rattle.affc_ast.specs.Recursion.{by_stmt}
 use Rattle.affc_ast.specs.Trace.{Assignment, assignments}
-use Rattle.affc_domain.specs.Rounds.{Round, Loop, Test, rounds}
+use Rattle.affc_domain.specs.Rounds.{Round, Loop, Test, rounds, loops_in, comparisons_in}
 use Rattle.affc_cprint.proofs.Arms.{for_here, if_here, block_here}
 use Rattle.affc_cprint.proofs.ReadBackValues.{Each}
-use Rattle.affc_wellnamed.specs.Known.{Known, and_iterator, and_locals, all_at, for_known, if_known, assign_known, block_known, stmt_step, stmt_known, known_behind, is_function, params_known, context_known, temps_known, body_known, program_known}
+use Rattle.affc_wellnamed.specs.Known.{Known, and_iterator, and_locals, all_at, cond_known, for_known, assign_known, block_known, stmt_step, stmt_known, known_behind, is_function, params_known, context_known, temps_known, body_known, program_known}
 use Rattle.affc_cprint.specs.Forms.{is_none as no_entry}
+use Rattle.affc_loopprint.proofs.Conditions.{denied_known, known_some}
 use Rattle.affc_loopprint.proofs.Entries.{Walk, two_at, entries}
 
 -- an assignment, and what stands round it from the outermost on
 abbrev pub around_known : Known → List Round → Assignment → Bool
 around_known known [] a = assign_known known a.array.0 a.subs a.value
 around_known known (Loop iter low rel high ∷ rs) a = for_known known iter low rel high && around_known (and_iterator known iter) rs a
-around_known known (Test conds ∷ rs) a = if_known known conds && around_known known rs a
+around_known known (Test cond ∷ rs) a = cond_known known cond && around_known known rs a
 
 -- a statement that is known, and holds no locals
 abbrev IsThere : Known → Stmt → Type 0
@@ -50,9 +51,15 @@ walk = record {
   loop = λ known iter low rel high body h.
       let p = and_parts (for_known known iter low rel high) (all_at (and_iterator known iter) (map stmt_known body)) (sym (ap (λ (f : Known → Bool). f known) (for_here stmt_step iter low rel high body)) ∙ h.0) in
       (all_there (and_iterator known iter) body p.1 (sym (for_here plain_step iter low rel high body) ∙ h.1), λ rs a q. ap (λ b. b && around_known (and_iterator known iter) rs a) p.0 ∙ q);
-  test = λ known cs body h.
-      let p = and_parts (if_known known cs) (all_at known (map stmt_known body)) (sym (ap (λ (f : Known → Bool). f known) (if_here stmt_step cs body)) ∙ h.0) in
-      (all_there known body p.1 (sym (if_here plain_step cs body) ∙ h.1), λ rs a q. ap (λ b. b && around_known known rs a) p.0 ∙ q);
+  test = λ known cond body other h.
+      let p = and_parts (cond_known known cond) (all_at known (map stmt_known body) && all_at known (map stmt_known other)) (sym (ap (λ (f : Known → Bool). f known) (if_here stmt_step cond body other)) ∙ h.0) in
+      let q = and_parts (all_at known (map stmt_known body)) (all_at known (map stmt_known other)) p.1 in
+      let l = and_parts (all_true (map (by_stmt plain_step) body)) (all_true (map (by_stmt plain_step) other)) (sym (if_here plain_step cond body other) ∙ h.1) in (
+        all_there known body q.0 l.0,
+        λ rs a k. ap (λ b. b && around_known known rs a) p.0 ∙ k,
+        all_there known other q.1 l.1,
+        λ rs a k. ap (λ b. b && around_known known rs a) (denied_known known cond ∙ p.0) ∙ k,
+      );
   assign = λ known op array subs value h. h.0;
   block = in_block;
 }
@@ -67,6 +74,16 @@ all_known program h bare n rs a e f =
     let known = known_behind program.prelude program.name program.params program.temps in
     two_at (λ qs b. around_known known qs b ≡ true) (rounds program) (assignments program) n rs a
     (entries IsThere (λ k qs b. around_known k qs b ≡ true) and_iterator walk known program.body (all_there known program.body h (from_true (has_no_locals program) bare))) e f
+
+-- each condition has a comparison or a remainder
+pub few_around : (known : Known) (rs : List Round) (a : Assignment) → around_known known rs a ≡ true → length rs ≤ loops_in rs + comparisons_in rs
+few_around known [] a h = omega arith
+few_around known (Loop iter low rel high ∷ rs) a h = let r = few_around (and_iterator known iter) rs a (and_parts (for_known known iter low rel high) _ h).1 in omega (arith, r)
+few_around known (Test cond ∷ rs) a h =
+    let p = and_parts (cond_known known cond) (around_known known rs a) h in
+    let r = few_around known rs a p.1 in
+    let s = known_some known cond p.0 in
+    omega (arith, r, s)
 
 -- of a program that is known
 pub known_body : (program : Program) → program_known program ≡ true → body_known program ≡ true

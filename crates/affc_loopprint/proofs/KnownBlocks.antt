@@ -1,16 +1,20 @@
 -- What is known of the loops that are printed, and of the blocks in them.
 use Rattle.std.proofs.Common.{◌≡◌, inl, inr, ℕ, suc, ◌+◌, ◌^◌, ◌<◌, ◌≤◌, ℤ, Bool, true, false, not, ◌&&◌, ◌||◌, List, [], ◌∷◌, ◌++◌, length, map, refl, sym, ap, ◌∙◌, arith}
 use Rattle.std.specs.List.{All, list_any}
-use Rattle.std.proofs.lemmas.Bool.{and_parts, and_from, or_parts, or_from, lt-ltb}
+use Rattle.std.proofs.lemmas.Bool.{and_parts, and_from, or_parts, or_from, lt-ltb, false≢true}
 use Rattle.std.proofs.lemmas.List.Folds.{list_any-append}
 use Rattle.affc_lex.specs.Bytes.{same}
 use Rattle.affc_lex.specs.Pieces.{is_word}
 use Rattle.affc_rows.specs.Forms.{Affine, HaveColumns}
 use Rattle.affc_ast.specs.declared.tree.Compare.{Compare}
+use Rattle.affc_ast.specs.declared.tree.Cond.{Cond}
 use Rattle.affc_ast.specs.declared.tree.Ix.{Ix}
 use Rattle.affc_ast.specs.declared.tree.Local.{Local}
-use Rattle.affc_ast.specs.declared.tree.Rel.TheVariants.{LessEqual}
+use Rattle.affc_ast.specs.declared.tree.Rel.{Rel}
+use Rattle.affc_ast.specs.declared.tree.Rel.TheVariants.{Less, LessEqual, Greater, GreaterEqual, Equal, NotEqual}
 use Rattle.affc_ast.specs.declared.tree.Stmt.{Stmt}
+use Rattle.affc_ast.specs.declared.tree.Stmt.TheVariants.{If}
+use Rattle.affc_ast.specs.Joined.{is_ordered}
 use Rattle.affc_ast.specs.Names.{is_reserved}
 use Rattle.affc_ast.specs.Trace.{Assignment}
 use Rattle.affc_trace.specs.Law.{IsIn}
@@ -18,27 +22,39 @@ use Rattle.affc_domain.specs.Rounds.{Round, Loop, Test, loops_in}
 use Rattle.affc_grammar.specs.Names.{is_time_name}
 use Rattle.affc_loops.specs.Between.{loops_between, body_between}
 use Rattle.affc_loops.specs.Limits.{IsSlight}
-use Rattle.affc_loops.specs.Loops.{Scheduled, loop_names, locals_of, box_tests, time_tests, if_any, loop_tests, guarded, moved_assign, block_of, time_name}
-use Rattle.affc_loops.specs.Trees.{name_at, form_tree}
+use Rattle.affc_loops.specs.Loops.{Scheduled, loop_names, locals_of, box_tests, time_tests, all_of, if_any, loop_tests, guarded, moved_assign, block_of, time_name}
+use Rattle.affc_loops.specs.Trees.{name_at, form_tree, moved_cond}
 use Rattle.affc_loops.proofs.Guards.{names_count}
 use Rattle.affc_loops.proofs.Sizes.{Within}
 use Rattle.affc_cprint.proofs.Arms.{for_here, if_here, block_here}
 use Rattle.affc_cprint.proofs.Spelled.{off}
 use Rattle.affc_cprint.specs.Forms.{is_none}
-use Rattle.affc_wellnamed.specs.Known.{Known, and_iterator, and_locals, is_new, is_refused, is_bound, ix_known, compares_known, for_known, if_known, locals_known, block_known, stmt_step, stmt_known, stmts_known}
+use Rattle.affc_wellnamed.specs.Known.{Known, and_iterator, and_locals, is_new, is_refused, is_bound, ix_known, compares_known, cond_known, for_known, locals_known, block_known, stmt_step, stmt_known, stmts_known}
 use Rattle.affc_loopprint.specs.Spare.{HaveFreeNames}
 use Rattle.affc_loopprint.proofs.EndCases.{EndsFrom}
 use Rattle.affc_loopprint.proofs.KnownAround.{around_known}
 use Rattle.affc_loopprint.proofs.KnownEnds.{KnownAt}
-use Rattle.affc_loopprint.proofs.Moved.{moved_known, all_moved_known, tests_moved_known, moved_takes, moved_value_known}
+use Rattle.affc_loopprint.proofs.Conditions.{moved_cond_known, all_of_known}
+use Rattle.affc_loopprint.proofs.Moved.{moved_known, all_moved_known, moved_takes, moved_value_known}
 use Rattle.affc_loopprint.proofs.Sums.{sums_known, number_has, form_has}
 use Rattle.affc_loopprint.proofs.TimeNames.{time_is_word, time_is_time, times_differ, free_is_other}
 
 -- ---- Tests
 
+if_there : (known : Known) (cond : Cond) (body : List Stmt) → cond_known known cond ≡ true → stmts_known known body ≡ true → stmts_known known (If cond body [] ∷ []) ≡ true
+if_there known cond body h k = and_from _ true (ap (λ (f : Known → Bool). f known) (if_here stmt_step cond body []) ∙ and_from (cond_known known cond) _ h (and_from _ true k refl)) refl
+
+bound_ordered : (rel : Rel) → is_bound rel ≡ true → is_ordered rel ≡ true
+bound_ordered Less h = refl
+bound_ordered LessEqual h = refl
+bound_ordered Greater h = absurd (false≢true h)
+bound_ordered GreaterEqual h = absurd (false≢true h)
+bound_ordered Equal h = absurd (false≢true h)
+bound_ordered NotEqual h = absurd (false≢true h)
+
 any_there : (known : Known) (cs : List Compare) (body : List Stmt) → compares_known known cs ≡ true → stmts_known known body ≡ true → stmts_known known (if_any cs body) ≡ true
 any_there known [] body h k = k
-any_there known (c ∷ cs) body h k = and_from _ true (ap (λ (f : Known → Bool). f known) (if_here stmt_step (c ∷ cs) body) ∙ and_from (if_known known (c ∷ cs)) _ h k) refl
+any_there known (c ∷ cs) body h k = if_there known (all_of c cs) body (all_of_known known c cs h) k
 
 box_there : (known : Known) (from : ℕ) (rs : List (ℤ × ℤ)) → All (Within (2 ^ 31)) rs → from + length rs ≤ known.numbers → compares_known known (box_tests from rs) ≡ true
 box_there known from [] w l = refl
@@ -78,15 +94,14 @@ module _ (first more : ℕ) (new : Known) (calls : new.prelude ≡ true) where
       let r = and_parts (is_bound rel) (ix_known old low && ix_known old high) q.1 in
       let s = and_parts (ix_known old low) (ix_known old high) r.1 in
       let name : ix_known new (name_at from) ≡ true = lt-ltb from new.numbers (omega (arith, m)) in
-      any_there new (loop_tests first more from (Loop iter low rel high)) (guarded first more (suc from) rs (moved_assign first more a ∷ []))
-      (and_from _ _ (and_from _ _ (moved_known old new (λ z. calls) first more room low s.0) name) (and_from _ _ (and_from _ _ name (moved_known old new (λ z. calls) first more room high s.1)) refl))
+      any_there new (loop_tests first more from low rel high) (guarded first more (suc from) rs (moved_assign first more a ∷ []))
+      (and_from _ _ (and_from _ _ (moved_known old new (λ z. calls) first more room low s.0) name)
+      (and_from _ true (and_from (is_ordered rel) _ (bound_ordered rel r.0) (and_from _ _ name (moved_known old new (λ z. calls) first more room high s.1))) refl))
       (guarded_there rs a (and_iterator old iter) (suc from) e (omega (arith, l)) (omega (arith, m)) p.1)
-  guarded_there (Test conds ∷ rs) a old from e l m h =
+  guarded_there (Test cond ∷ rs) a old from e l m h =
       let room : old.numbers + more ≤ new.numbers = omega (arith, l) in
-      let p = and_parts (if_known old conds) _ h in
-      any_there new (loop_tests first more from (Test conds)) (guarded first more from rs (moved_assign first more a ∷ []))
-      (tests_moved_known old new (λ z. calls) first more room conds (and_parts (not (is_none conds)) _ p.0).1)
-      (guarded_there rs a old from e l m p.1)
+      let p = and_parts (cond_known old cond) _ h in
+      if_there new (moved_cond first more cond) (guarded first more from rs (moved_assign first more a ∷ [])) (moved_cond_known old new (λ z. calls) first more room cond p.0) (guarded_there rs a old from e l m p.1)
 
 -- ---- Locals
 
@@ -124,7 +139,7 @@ module _ (first wide : ℕ) (inner : Known) (room : first ≤ inner.numbers) (en
       let m = or_parts (list_any (λ (x : Local). same x.name v) before) (inner.is_taken v) (stays v f n.1) in
       or_from _ _ (any_last v before l m.0 n.0) m.1)
       (λ i y k. s (suc i) y (omega (arith, k))) (λ i y k. w (suc i) y (omega (arith, k))))
-  locals_there (Test conds ∷ rs) a gs old before h free stays s w = locals_there rs a gs old before (and_parts (if_known old conds) _ h).1 free stays s w
+  locals_there (Test cond ∷ rs) a gs old before h free stays s w = locals_there rs a gs old before (and_parts (cond_known old cond) _ h).1 free stays s w
 
 locals_count : (first : ℕ) (ws : List (List ℕ)) (gs : List Affine) → length gs ≡ length ws → length (locals_of first ws gs) ≡ length ws
 locals_count first [] gs e = refl

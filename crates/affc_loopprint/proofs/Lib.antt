@@ -1,6 +1,7 @@
 pub mod Entries
 pub mod Sums
 pub mod Moved
+pub mod Conditions
 pub mod EndCases
 pub mod Fitting
 pub mod TimeNames

@@ -11,11 +11,12 @@ use Rattle.affc_ast.specs.declared.tree.Ix.TheBlock.{more_of-Ix, end_of-Ix}
 use Rattle.affc_ast.specs.declared.tree.Val.{Val}
 use Rattle.affc_ast.specs.declared.tree.Val.TheVariants as v
 use Rattle.affc_ast.specs.declared.tree.Val.TheBlock.{more_of-Val, end_of-Val}
+use Rattle.affc_ast.specs.Joined.{is_ordered}
 use Rattle.affc_ast.proofs.Steps.{neg_here, floord_here, ceild_here, add_here, sub_here, mul_here, min_here, max_here, mod_here, not_here, bin_here, shift_here}
 use Rattle.affc_domain.proofs.Lists.{length_map}
-use Rattle.affc_loops.specs.Trees.{moved, moved_compare, moved_value}
-use Rattle.affc_cprint.specs.Forms.{Form, both, product, quotient, is_within, form, form_step, compare_passes, value_passes, value_step as passes_step}
-use Rattle.affc_wellnamed.specs.Known.{Known, is_divisor, ix_step, ix_known, ixs_known, compares_known, takes, value_step, value_known}
+use Rattle.affc_loops.specs.Trees.{moved, moved_value}
+use Rattle.affc_cprint.specs.Forms.{Form, both, product, quotient, is_within, form, form_step, value_passes, value_step as passes_step}
+use Rattle.affc_wellnamed.specs.Known.{Known, is_divisor, ix_step, ix_known, ixs_known, compare_known, compares_known, takes, value_step, value_known}
 use Rattle.affc_wellnamed.specs.Plain.{is_plain}
 use Rattle.affc_wellnamed.specs.Work.{load_step, loads}
 use Rattle.affc_wellnamed.specs.Shape.{plus}
@@ -50,7 +51,7 @@ module _ (old new : Known) (calls : old.prelude ≡ true → new.prelude ≡ tru
 
     pub tests_wider : (cs : List Compare) → compares_known old cs ≡ true → compares_known new cs ≡ true
     tests_wider [] h = refl
-    tests_wider (d ∷ cs) h = two _ _ _ _ (two _ _ _ _ (wider d.left) (wider d.right)) (tests_wider cs) h
+    tests_wider (d ∷ cs) h = two (compare_known old d) _ (compare_known new d) _ (two (is_ordered d.rel) _ (is_ordered d.rel) _ (λ e. e) (two _ _ _ _ (wider d.left) (wider d.right))) (tests_wider cs) h
 
   -- where so many more are known, behind the first ones
   module _ (first more : ℕ) (numbers : old.numbers + more ≤ new.numbers) where
@@ -74,10 +75,6 @@ module _ (old new : Known) (calls : old.prelude ≡ true → new.prelude ≡ tru
     pub all_moved_known : (es : List Ix) → ixs_known old es ≡ true → ixs_known new (map (moved first more) es) ≡ true
     all_moved_known [] h = refl
     all_moved_known (e ∷ es) h = two _ _ _ _ (moved_known e) (all_moved_known es) h
-
-    pub tests_moved_known : (cs : List Compare) → compares_known old cs ≡ true → compares_known new (map (moved_compare first more) cs) ≡ true
-    tests_moved_known [] h = refl
-    tests_moved_known (d ∷ cs) h = two _ _ _ _ (two _ _ _ _ (moved_known d.left) (moved_known d.right)) (tests_moved_known cs) h
 
     module _ (arrays : old.arrays ≡ new.arrays) where
       pub moved_takes : (is_store : Bool) (array : ℕ) (subs : List Ix) → takes is_store (length subs) (slice_get old.arrays array) ≡ true → takes is_store (length (map (moved first more) subs)) (slice_get new.arrays array) ≡ true
@@ -116,15 +113,6 @@ module _ (first more : ℕ) where
   pub all_moved_plain : (es : List Ix) → list_all is_plain (map (moved first more) es) ≡ list_all is_plain es
   all_moved_plain [] = refl
   all_moved_plain (e ∷ es) = ap (λ b. b && list_all is_plain (map (moved first more) es)) (moved_plain e) ∙ ap (λ b. is_plain e && b) (all_moved_plain es)
-
-  moved_compare_plain : (d : Compare) → compare_passes is_plain (moved_compare first more d) ≡ compare_passes is_plain d
-  moved_compare_plain d = ap (λ b. b && is_plain (moved first more d.right)) (moved_plain d.left) ∙ ap (λ b. is_plain d.left && b) (moved_plain d.right)
-
-  pub tests_moved_plain : (cs : List Compare) → list_all (compare_passes is_plain) (map (moved_compare first more) cs) ≡ list_all (compare_passes is_plain) cs
-  tests_moved_plain [] = refl
-  tests_moved_plain (d ∷ cs) =
-      ap (λ b. b && list_all (compare_passes is_plain) (map (moved_compare first more) cs)) (moved_compare_plain d)
-      ∙ ap (λ b. compare_passes is_plain d && b) (tests_moved_plain cs)
 
   pub moved_value_plain : (e : Val) → value_passes is_plain (moved_value first more e) ≡ value_passes is_plain e
   moved_value_plain (v.Load array subs) = all_moved_plain subs

@@ -1,7 +1,7 @@
 -- Without the prelude a program has no calls and no locals: it is printed behind the prelude with as many tokens and brackets, and one token more in its head.
-use Rattle.std.proofs.Common.{◌≡◌, ℕ, ◌+◌, ◌≤◌, ◌&&◌, ◌||◌, Bool, true, false, not, List, [], ◌∷◌, ◌++◌, map, refl, sym, ap, subst, ◌∙◌, arith}
+use Rattle.std.proofs.Common.{◌≡◌, ℕ, ◌+◌, ◌≤◌, ◌&&◌, ◌||◌, Bool, true, false, not, nat_le, List, [], ◌∷◌, ◌++◌, length, map, refl, sym, ap, subst, ◌∙◌, arith}
 use Rattle.std.proofs.lemmas.Bool.{and_parts, false≢true}
-use Rattle.affc_ast.specs.declared.tree.Compare.{Compare}
+use Rattle.affc_ast.specs.declared.tree.Cond.{Cond}
 use Rattle.affc_ast.specs.declared.tree.Decl.{Decl}
 use Rattle.affc_ast.specs.declared.tree.Role.{Role}
 use Rattle.affc_ast.specs.declared.tree.Param.{Param}
@@ -15,17 +15,19 @@ use Rattle.affc_ast.specs.declared.tree.Stmt.{Stmt}
 use Rattle.affc_ast.specs.declared.tree.Program.{Program}
 use Rattle.affc_grammar.specs.Grammar.{Name}
 use Rattle.affc_cprint.specs.Forms.{is_none}
-use Rattle.affc_cprint.specs.declared.brackets.Place.TheVariants.{Whole, UnderMinus}
+use Rattle.affc_cprint.specs.Places.{divides}
+use Rattle.affc_cprint.specs.declared.brackets.Place.TheVariants.{Whole, RightOfSum, UnderMinus}
 use Rattle.affc_cprint.specs.declared.brackets.Level.TheVariants.{Primary, Shifted, Or}
 use Rattle.affc_wellnamed.specs.declared.shape.Extent.{Extent}
 use Rattle.affc_wellnamed.specs.declared.shape.ValExtent.{ValExtent}
+use Rattle.affc_wellnamed.specs.declared.shape.CondExtent.{CondExtent}
 use Rattle.affc_wellnamed.specs.declared.shape.Shape.{Shape}
 use Rattle.affc_wellnamed.specs.Known as known
-use Rattle.affc_wellnamed.specs.Known.{Known, and_iterator, and_locals, is_new, is_bound, takes, ix_known, ixs_known, compares_known, value_known, for_known, if_known, block_known, locals_known, all_at, stmt_known, is_temp, extents_known, known_behind, param_known, params_known, temp_known, temps_known, is_function, context_known, body_known, program_known}
-use Rattle.affc_wellnamed.specs.Shape.{nothing, beside, and_tokens, bracketed, placed, negated, sum, product, ix_step, ix_extent, whole, dims_behind, compare_extent, compares_behind, conds_extent, at_level, binary, val_step, val_extent, both, line, worded, closed, all_behind, for_head, if_head, block_head, stmt_step, stmt_shape, head_tokens, array_extent, param_extent, params_behind, params_extent, decls_behind, head_line, function_shape}
-use Rattle.affc_ast.proofs.Steps.{neg_here, floord_here, ceild_here, add_here, sub_here, mul_here, min_here, max_here, mod_here, not_here, bin_here, shift_here, for_here, if_here, block_here}
+use Rattle.affc_wellnamed.specs.Known.{Known, CondKnown, and_iterator, and_locals, is_new, is_bound, takes, ix_known, ixs_known, cond_known, value_known, for_known, block_known, locals_known, all_at, stmt_known, is_temp, extents_known, known_behind, param_known, params_known, temp_known, temps_known, is_function, context_known, body_known, program_known}
+use Rattle.affc_wellnamed.specs.Shape.{nothing, beside, and_tokens, bracketed, placed, negated, sum, product, ix_step, ix_extent, whole, dims_behind, alone, joined_extent, remainder_extent, cond_step, cond_extent, at_level, binary, val_step, val_extent, both, line, worded, closed, all_behind, other_behind, for_head, if_head, block_head, stmt_step, stmt_shape, head_tokens, array_extent, param_extent, params_behind, params_extent, decls_behind, head_line, function_shape}
+use Rattle.affc_ast.proofs.Steps.{neg_here, floord_here, ceild_here, add_here, sub_here, mul_here, min_here, max_here, mod_here, not_here, bin_here, shift_here, all_here, any_here, for_here, if_here, block_here}
 use Rattle.affc_cprint.proofs.ReadBackValues.{Each}
-use Rattle.affc_wellnamed.proofs.Induction.{IxCases, every_ix, ValCases, every_val, StmtCases, every_stmt}
+use Rattle.affc_wellnamed.proofs.Induction.{IxCases, every_ix, ValCases, every_val, CondCases, every_cond, StmtCases, every_stmt}
 use Rattle.affc_wellnamed.proofs.ShapeParts.{larger_is}
 use Rattle.affc_loopprint.specs.Short.{with_prelude}
 use Rattle.affc_loopprint.proofs.ShapeMoved.{two}
@@ -69,20 +71,34 @@ module _ (sight : Known) (off : sight.prelude ≡ false) where
       let p = and_parts (ix_known sight e) (ixs_known sight es) h in
       ap (λ z. dims_behind true (beside a (bracketed z)) es) (same_whole e p.0) ∙ same_dims (beside a (bracketed (whole false e))) es p.1
 
-  same_compare : (c : Compare) → ix_known sight c.left && ix_known sight c.right ≡ true → compare_extent true c ≡ compare_extent false c
-  same_compare c h = let p = and_parts (ix_known sight c.left) (ix_known sight c.right) h in two (λ x y. and_tokens 1 (beside x y)) _ _ _ _ (same_whole c.left p.0) (same_whole c.right p.1)
+  abbrev SameCond : Cond → Type 0
+  SameCond c = cond_known sight c ≡ true → cond_extent true c ≡ cond_extent false c
 
-  same_compares : (a : Extent) (cs : List Compare) → compares_known sight cs ≡ true → compares_behind true a cs ≡ compares_behind false a cs
-  same_compares a [] h = refl
-  same_compares a (c ∷ cs) h =
-      let p = and_parts (ix_known sight c.left && ix_known sight c.right) (compares_known sight cs) h in
-      ap (λ z. compares_behind true (and_tokens 1 (beside a z)) cs) (same_compare c p.0) ∙ same_compares (and_tokens 1 (beside a (compare_extent false c))) cs p.1
+  abbrev seen : Cond → CondKnown
+  seen = known.cond_seen sight
 
-  same_conds : (cs : List Compare) → compares_known sight cs ≡ true → conds_extent true cs ≡ conds_extent false cs
-  same_conds [] h = refl
-  same_conds (c ∷ cs) h =
-      let p = and_parts (ix_known sight c.left && ix_known sight c.right) (compares_known sight cs) h in
-      ap (λ z. compares_behind true z cs) (same_compare c p.0) ∙ same_compares (compare_extent false c) cs p.1
+  same_each : (all : Bool) (cs : List Cond) → Each SameCond cs → known.each_known all (map seen cs) ≡ true → map (cond_extent true) cs ≡ map (cond_extent false) cs
+  same_each all [] f h = refl
+  same_each all (c ∷ cs) f h =
+      let p = and_parts (not (known.is_joined_by all (seen c)) && (seen c).is_known) (known.each_known all (map seen cs)) h in
+      let q = and_parts (not (known.is_joined_by all (seen c))) (seen c).is_known p.0 in
+      two (λ x xs. x ∷ xs) _ _ _ _ (f.0 q.1) (same_each all cs f.1 p.1)
+
+  same_joined : (all : Bool) (cs : List Cond) → Each SameCond cs → known.joined_known all (map seen cs) ≡ true → joined_extent all (map (cond_extent true) cs) ≡ joined_extent all (map (cond_extent false) cs)
+  same_joined all cs f h = ap (joined_extent all) (same_each all cs f (and_parts (nat_le 2 (length (map seen cs))) (known.each_known all (map seen cs)) h).1)
+
+  cond_cases : CondCases SameCond
+  cond_cases = record {
+    compare = λ rel left right h. let p = and_parts (ix_known sight left) (ix_known sight right) h in two (λ x y. alone (and_tokens 1 (beside x y))) _ _ _ _ (same_whole left p.0) (same_whole right p.1);
+    all = λ cs f h.
+        all_here (cond_step true) cs ∙ same_joined true cs f (sym (ap (λ (k : CondKnown). k.is_known) (all_here (known.cond_step sight) cs)) ∙ h) ∙ sym (all_here (cond_step false) cs);
+    any = λ cs f h.
+        any_here (cond_step true) cs ∙ same_joined false cs f (sym (ap (λ (k : CondKnown). k.is_known) (any_here (known.cond_step sight) cs)) ∙ h) ∙ sym (any_here (cond_step false) cs);
+    divides = λ value by so h. ap (λ z. remainder_extent (divides true by) (placed RightOfSum z)) (same_extent value (and_parts (known.is_divisor by) (ix_known sight value) h).1);
+  }
+
+  same_cond : (c : Cond) → SameCond c
+  same_cond c = every_cond SameCond cond_cases c
 
   abbrev SameValue : Val → Type 0
   SameValue v = value_known sight v ≡ true → val_extent true v ≡ val_extent false v
@@ -130,13 +146,14 @@ stmt_cases = record {
       ∙ ap (λ z. worded (closed (all_behind (both (both (line 5 (whole false low)) (line 2 z)) (line 3 nothing)) (map (stmt_shape true) body)))) (same_whole sight off high t.1)
       ∙ ap (λ z. worded (closed (all_behind (for_head false low high) z))) (same_bodies (and_iterator sight iter) off body each p.1)
       ∙ sym (for_here (stmt_step false) iter low rel high body);
-  test = λ cs body each sight off h.
-      let p = and_parts (if_known sight cs) (all_at sight (map stmt_known body)) (sym (ap (λ f. f sight) (if_here known.stmt_step cs body)) ∙ h) in
-      let q = and_parts (not (is_none cs)) (compares_known sight cs) p.0 in
-      if_here (stmt_step true) cs body
-      ∙ ap (λ z. worded (closed (all_behind (line 3 z) (map (stmt_shape true) body)))) (same_conds sight off cs q.1)
-      ∙ ap (λ z. worded (closed (all_behind (if_head false cs) z))) (same_bodies sight off body each p.1)
-      ∙ sym (if_here (stmt_step false) cs body);
+  test = λ c body other each each' sight off h.
+      let p = and_parts (cond_known sight c) (all_at sight (map stmt_known body) && all_at sight (map stmt_known other)) (sym (ap (λ f. f sight) (if_here known.stmt_step c body other)) ∙ h) in
+      let q = and_parts (all_at sight (map stmt_known body)) (all_at sight (map stmt_known other)) p.1 in
+      if_here (stmt_step true) c body other
+      ∙ ap (λ (z : CondExtent). worded (closed (other_behind (all_behind (line 3 z.extent) (map (stmt_shape true) body)) (map (stmt_shape true) other)))) (same_cond sight off c p.0)
+      ∙ ap (λ z. worded (closed (other_behind (all_behind (if_head false c) z) (map (stmt_shape true) other)))) (same_bodies sight off body each q.0)
+      ∙ ap (λ z. worded (closed (other_behind (all_behind (if_head false c) (map (stmt_shape false) body)) z))) (same_bodies sight off other each' q.1)
+      ∙ sym (if_here (stmt_step false) c body other);
   assign = λ op id subs v sight off h.
       let p = and_parts _ (ixs_known sight subs && value_known sight v) h in
       let q = and_parts (ixs_known sight subs) (value_known sight v) p.1 in

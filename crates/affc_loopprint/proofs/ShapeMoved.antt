@@ -1,6 +1,6 @@
 -- Where more names stand in sight, the moved expression is printed with as many tokens and brackets.
-use Rattle.std.proofs.Common.{◌≡◌, ℕ, Bool, List, [], ◌∷◌, map, refl, ap, ◌∙◌}
-use Rattle.affc_ast.specs.declared.tree.Compare.{Compare}
+use Rattle.std.proofs.Common.{◌≡◌, ℕ, Bool, true, List, [], ◌∷◌, map, refl, ap, ◌∙◌}
+use Rattle.affc_ast.specs.declared.tree.Cond.{Cond}
 use Rattle.affc_ast.specs.declared.tree.Ix.{Ix}
 use Rattle.affc_ast.specs.declared.tree.Ix.TheVariants as c
 use Rattle.affc_ast.specs.declared.tree.Ix.TheOpen.{Ix-F}
@@ -8,15 +8,16 @@ use Rattle.affc_ast.specs.declared.tree.Ix.TheBlock.{more_of-Ix, end_of-Ix}
 use Rattle.affc_ast.specs.declared.tree.Val.{Val}
 use Rattle.affc_ast.specs.declared.tree.Val.TheVariants as v
 use Rattle.affc_ast.specs.declared.tree.Val.TheBlock.{more_of-Val, end_of-Val}
-use Rattle.affc_cprint.specs.declared.brackets.Place.TheVariants.{Whole, UnderMinus}
+use Rattle.affc_cprint.specs.declared.brackets.Place.TheVariants.{Whole, RightOfSum, UnderMinus}
 use Rattle.affc_cprint.specs.declared.brackets.Level.TheVariants.{Primary, Shifted}
 use Rattle.affc_cprint.specs.Places.{divides}
 use Rattle.affc_wellnamed.specs.declared.shape.Extent.{Extent}
 use Rattle.affc_wellnamed.specs.declared.shape.IxExtent.{IxExtent}
 use Rattle.affc_wellnamed.specs.declared.shape.ValExtent.{ValExtent}
-use Rattle.affc_wellnamed.specs.Shape.{beside, and_tokens, bracketed, placed, negated, sum, product, choice, quotient, ix_step, ix_extent, whole, dims_behind, compare_extent, compares_behind, conds_extent, at_level, binary, val_step, val_extent}
-use Rattle.affc_loops.specs.Trees.{moved, moved_compare, moved_value}
+use Rattle.affc_wellnamed.specs.Shape.{beside, and_tokens, bracketed, placed, negated, sum, product, choice, quotient, ix_step, ix_extent, whole, dims_behind, alone, remainder_extent, cond_step, cond_extent, at_level, binary, val_step, val_extent}
+use Rattle.affc_loops.specs.Trees.{moved, moved_cond, moved_value}
 use Rattle.affc_ast.proofs.Steps.{neg_here, floord_here, ceild_here, add_here, sub_here, mul_here, min_here, max_here, mod_here, not_here, bin_here, shift_here}
+use Rattle.affc_loopprint.proofs.Conditions.{moved_same}
 
 pub two : {A B C : Type 0} (f : A → B → C) (x x' : A) (y y' : B) → x ≡ x' → y ≡ y' → f x y ≡ f x' y'
 two f x x' y y' p q = ap (λ z. f z y) p ∙ ap (f x') q
@@ -48,17 +49,11 @@ module _ (prelude : Bool) (first more : ℕ) where
   moved_dims a [] = refl
   moved_dims a (e ∷ es) = ap (λ z. dims_behind prelude (beside a (bracketed (placed Whole z))) (map to_new es)) (moved_extent e) ∙ moved_dims (beside a (bracketed (whole prelude e))) es
 
-  pub moved_compare_extent : (d : Compare) → compare_extent prelude (moved_compare first more d) ≡ compare_extent prelude d
-  moved_compare_extent d =
-      ap (λ z. and_tokens 1 (beside (placed Whole z) (whole prelude (to_new d.right)))) (moved_extent d.left) ∙ ap (λ z. and_tokens 1 (beside (whole prelude d.left) (placed Whole z))) (moved_extent d.right)
-
-  moved_behind : (a : Extent) (ds : List Compare) → compares_behind prelude a (map (moved_compare first more) ds) ≡ compares_behind prelude a ds
-  moved_behind a [] = refl
-  moved_behind a (d ∷ ds) = ap (λ z. compares_behind prelude (and_tokens 1 (beside a z)) (map (moved_compare first more) ds)) (moved_compare_extent d) ∙ moved_behind (and_tokens 1 (beside a (compare_extent prelude d))) ds
-
-  pub moved_conds : (ds : List Compare) → conds_extent prelude (map (moved_compare first more) ds) ≡ conds_extent prelude ds
-  moved_conds [] = refl
-  moved_conds (d ∷ ds) = ap (λ z. compares_behind prelude z (map (moved_compare first more) ds)) (moved_compare_extent d) ∙ moved_behind (compare_extent prelude d) ds
+  pub moved_cond_extent : (d : Cond) → cond_extent prelude (moved_cond first more d) ≡ cond_extent prelude d
+  moved_cond_extent d =
+      moved_same (cond_step prelude) first more
+      (λ rel left right. two (λ x y. alone (and_tokens 1 (beside (placed Whole x) (placed Whole y)))) _ _ _ _ (moved_extent left) (moved_extent right))
+      (λ value by so. ap (λ z. remainder_extent (divides true by) (placed RightOfSum z)) (moved_extent value)) d
 
   abbrev to_new_value : Val → Val
   to_new_value = moved_value first more

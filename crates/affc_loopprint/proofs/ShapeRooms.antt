@@ -1,18 +1,22 @@
 -- What is printed of parts where what is printed of the whole is small, and of the whole by its parts.
-use Rattle.std.proofs.Common.{ℕ, ◌+◌, ◌-◌, ◌≤◌, true, max, List, [], ◌∷◌, map, sym, subst, arith}
+use Rattle.std.proofs.Common.{◌≡◌, ℕ, ◌+◌, ◌-◌, ◌≤◌, true, max, List, [], ◌∷◌, map, refl, sym, ap, subst, arith}
 use Rattle.affc_ast.specs.declared.tree.Compare.{Compare}
+use Rattle.affc_ast.specs.declared.tree.Cond.{Cond}
 use Rattle.affc_ast.specs.declared.tree.Stmt.{Stmt}
 use Rattle.affc_ast.specs.declared.tree.Stmt.TheVariants.{If}
 use Rattle.affc_wellnamed.specs.declared.shape.Extent.{Extent}
 use Rattle.affc_wellnamed.specs.declared.shape.Shape.{Shape}
-use Rattle.affc_wellnamed.specs.Shape.{nothing, conds_extent, both, line, worded, closed, all_behind, stmt_step, stmt_shape}
-use Rattle.affc_ast.proofs.Steps.{if_here}
+use Rattle.affc_wellnamed.specs.declared.shape.CondExtent.{CondExtent}
+use Rattle.affc_wellnamed.specs.Shape.{nothing, compare_extent, cond_step, cond_extent, both, line, worded, closed, all_behind, stmt_step, stmt_shape}
+use Rattle.affc_ast.proofs.Steps.{all_here, if_here}
 use Rattle.affc_cprint.proofs.ReadBackValues.{Each}
 use Rattle.affc_wellnamed.proofs.ShapeParts.{larger_is}
 use Rattle.affc_wellnamed.proofs.ShapeStatements.{Numbers, joined, none}
-use Rattle.affc_loopprint.proofs.reprint.Values.{all_tokens, all_deep, conds_within}
+use Rattle.affc_loopprint.proofs.reprint.Rows.{Under}
+use Rattle.affc_loopprint.proofs.reprint.Values.{all_tokens, all_deep}
+use Rattle.affc_loopprint.proofs.reprint.Conditions.{joined_tokens, joined_deep, joined_within}
 use Rattle.affc_loopprint.proofs.reprint.Statements.{numbers_of, total, AtMost, most_self, behind_most}
-use Rattle.affc_loops.specs.Loops.{if_any}
+use Rattle.affc_loops.specs.Loops.{as_condition, all_of, if_any}
 
 -- at most so many tokens, so long a run, so many brackets
 pub record Room (t r d : ℕ) (n : Numbers) : Type 0 where
@@ -133,20 +137,40 @@ test_most c ss =
     let t = p.tokens in let r = p.run in let d = p.depth in let i = p.items in
     record { tokens = omega (arith, t); run = omega (arith, r); depth = omega (arith, d); items = omega (arith, i) }
 
-pub if_most : (cs : List Compare) (body : List Stmt) → AtMost (total (printed (If cs body ∷ []))) (under_test (conds_extent true cs) (total (printed body)))
-if_most cs body = subst (λ s. AtMost (joined (numbers_of s) none) (under_test (conds_extent true cs) (total (printed body)))) (sym (if_here (stmt_step true) cs body)) (test_most (conds_extent true cs) (printed body))
+-- without an `else`
+pub if_most : (cond : Cond) (body : List Stmt) → AtMost (total (printed (If cond body [] ∷ []))) (under_test (cond_extent true cond).extent (total (printed body)))
+if_most cond body =
+    let e = (cond_extent true cond).extent in
+    subst (λ s. AtMost (joined (numbers_of s) none) (under_test e (total (printed body)))) (sym (if_here (stmt_step true) cond body [])) (test_most e (printed body))
 
 pub under_most : (c : Extent) (m n : Numbers) → AtMost m n → AtMost (under_test c m) (under_test c n)
 under_most c m n p =
     let t = p.tokens in let r = p.run in let d = p.depth in let i = p.items in
     record { tokens = omega (arith, t); run = omega (arith, r); depth = omega (arith, d); items = omega (arith, i) }
 
+-- comparisons that are joined
+tests_joined : (cs : List Compare) → joined_tokens true (map (cond_extent true) (map as_condition cs)) ≡ all_tokens true cs
+tests_joined [] = refl
+tests_joined (d ∷ cs) = ap (λ n. (compare_extent true d).tokens + 1 + n) (tests_joined cs)
+
+tests_deep : (cs : List Compare) → joined_deep true (map (cond_extent true) (map as_condition cs)) ≡ all_deep true cs
+tests_deep [] = refl
+tests_deep (d ∷ cs) = ap (max (compare_extent true d).depth) (tests_deep cs)
+
+pub all_of_within : (d : Compare) (cs : List Compare) → Under 1 (all_tokens true (d ∷ cs)) (all_deep true (d ∷ cs)) (cond_extent true (all_of d cs)).extent
+all_of_within d [] = record { few = omega arith; shallow = omega arith }
+all_of_within d (e ∷ es) =
+    let cs : List Compare = d ∷ e ∷ es in
+    let u = joined_within true (map (cond_extent true) (map as_condition cs)) (omega arith) in
+    let a = u.few in let b = u.shallow in let t = tests_joined cs in let f = tests_deep cs in
+    subst (λ (x : CondExtent). Under 1 (all_tokens true cs) (all_deep true cs) x.extent) (sym (all_here (cond_step true) (map as_condition cs))) (record { few = omega (arith, a, t); shallow = omega (arith, b, f) })
+
 -- under tests of which there may be none
 pub any_most : (cs : List Compare) (body : List Stmt) (c : Extent) → all_tokens true cs ≤ c.tokens → all_deep true cs ≤ c.depth → AtMost (total (printed (if_any cs body))) (under_test c (total (printed body)))
 any_most [] body c h k = record { tokens = omega arith; run = omega arith; depth = omega arith; items = omega arith }
 any_most (d ∷ cs) body c h k =
-    let u = conds_within true (d ∷ cs) (omega arith) in
+    let u = all_of_within d cs in
     let f = u.few in let g = u.shallow in
-    let p = if_most (d ∷ cs) body in
+    let p = if_most (all_of d cs) body in
     let t = p.tokens in let r = p.run in let e = p.depth in let i = p.items in
     record { tokens = omega (arith, t, f, h); run = omega (arith, r, f, h); depth = omega (arith, e, g, k); items = omega (arith, i) }

@@ -35,7 +35,7 @@ use Rattle.affc_loopprint.proofs.KnownEnds.{KnownAt, known_cases}
 use Rattle.affc_loopprint.proofs.KnownHeads.{loops_known}
 use Rattle.affc_loopprint.proofs.Passes.{Slight, all_around, body_passes, loops_pass}
 use Rattle.affc_loopprint.proofs.PlainEnds.{PlainAt, plain_cases}
-use Rattle.affc_loopprint.proofs.Works.{all_free, loops_fit}
+use Rattle.affc_loopprint.proofs.Works.{all_free, all_around_fit, loops_fit}
 use Rattle.affc_loopprint.proofs.ShapeEnds.{FormFew, EndFew, few_cases}
 use Rattle.affc_loopprint.proofs.ShapeLoops.{loops_bounded}
 
@@ -119,7 +119,8 @@ module _ (source other : Program) (n : ℕ) (maps : List TimeMap) (rows : List (
       let f : Fit e = fitting source other n maps has same e i in
       (sized e i, all_known other (known_body other spare.known) spare.bare f.at e.around e.assignment f.its_rounds f.its_assignment, spare.iterators f.at e.around f.its_rounds)))
       (loops_pass other ends es spare.plain (all_ends_have PlainAt (λ operands deep. PlainAt) (plain_cases first)) slight)
-      (loops_fit other ends es spare.fits statements low (λ e i. let f : Fit e = fitting source other n maps has same e i in all_free other spare.fits f.at e.around e.assignment f.its_rounds f.its_assignment))
+      (loops_fit other ends es spare.fits statements low (λ e i. let f : Fit e = fitting source other n maps has same e i in all_free other spare.fits f.at e.around e.assignment f.its_rounds f.its_assignment)
+      (λ e i. let f : Fit e = fitting source other n maps has same e i in all_around_fit other spare.fits f.at e.around e.assignment f.its_rounds f.its_assignment))
       (loops_bounded other spare.short n ends es numbers (few source n maps has) statements low (all_ends_have FormFew EndFew (few_cases first)) (fitting source other n maps has same))
 
 pub spare_well_named : SpareWellNamed

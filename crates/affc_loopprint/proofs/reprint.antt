@@ -1,6 +1,7 @@
 pub mod Rows
 pub mod Expressions
 pub mod Values
+pub mod Conditions
 pub mod Nests
 pub mod Statements
 pub mod Programs

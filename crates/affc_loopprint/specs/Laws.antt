@@ -1,10 +1,11 @@
 -- What is printed of a schedule's loops reads as them.
-use Rattle.std.specs.Prelude.{◌≡◌, ℕ, false, List}
+use Rattle.std.specs.Prelude.{ℕ, List}
 use Rattle.affc_ast.specs.declared.tree.Program.{Program}
 use Rattle.affc_grammar.specs.Reads.{Reads, WellNamed}
 use Rattle.affc_trace.specs.declared.schedule.Schedule.TheVariants.{Time}
 use Rattle.affc_trace.specs.declared.schedule.TimeMap.{TimeMap}
 use Rattle.affc_trace.specs.Target.{numbers_in}
+use Rattle.affc_plain.specs.Laws.{IsBare}
 use Rattle.affc_loops.specs.Between.{program_between}
 use Rattle.affc_loops.specs.Ends.{Sides, ends_of}
 use Rattle.affc_loops.specs.Laws.{HasLoops, HaveSameLoops}
@@ -12,9 +13,9 @@ use Rattle.affc_loops.specs.Loops.{scheduled}
 use Rattle.affc_loopprint.specs.Rows.{ArePrintableOfEach}
 use Rattle.affc_loopprint.specs.Spare.{IsSpare}
 
--- A program that a text without the prelude reads as has room for loops.
+-- A bare program that a text reads as has room for loops.
 abbrev pub ReadsSpare : Type 0
-ReadsSpare = (text : List ℕ) (program : Program) → Reads text program → program.prelude ≡ false → IsSpare program
+ReadsSpare = (text : List ℕ) (program : Program) → Reads text program → IsBare program → IsSpare program
 
 -- A spare program is well named.
 abbrev pub SpareWellNamed : Type 0

@@ -1,7 +1,7 @@
 //! What is printed of a schedule's loops reads as them. Each law is the contract of a function that does nothing.
 ghost use Rattle.affc_loopprint.specs.Laws.{ReadsSpare, SpareWellNamed, BetweenWellNamed};
 
-/// A program that a text without the prelude reads as has room for loops.
+/// A bare program that a text reads as has room for loops.
 pub fn reads_spare()
     ensures law { ReadsSpare }
 {}

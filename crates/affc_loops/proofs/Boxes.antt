@@ -68,7 +68,7 @@ near_box outer (Loop iter low rel high ∷ rs) box e =
       near = true_both (is_near r.0 && is_near r.1) (near_ranges i.0) i.4 rest.near;
       ordered = All-cons IsRange r i.0 i.3 rest.ordered;
     })
-near_box outer (Test conds ∷ rs) box e = let h = near_box outer rs box e in record { long = h.long; near = h.near; ordered = h.ordered }
+near_box outer (Test cond ∷ rs) box e = let h = near_box outer rs box e in record { long = h.long; near = h.near; ordered = h.ordered }
 
 -- ---- The boxes of a program
 

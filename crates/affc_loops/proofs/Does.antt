@@ -1,5 +1,5 @@
 -- The printed program does what the target's instances do, in order.
-use Rattle.std.proofs.Common.{◌≡◌, ℕ, suc, ◌+◌, ◌-◌, ℤ, Bool, true, false, ◌&&◌, if◌then◌else◌, List, [], ◌∷◌, ◌++◌, length, Option, Some, map, flat_map, refl, sym, ap, subst, ◌∙◌, inl, inr, arith}
+use Rattle.std.proofs.Common.{◌≡◌, ℕ, ◌+◌, ◌-◌, ℤ, Bool, true, false, ◌&&◌, if◌then◌else◌, List, [], ◌∷◌, ◌++◌, length, Option, Some, map, flat_map, refl, sym, ap, subst, ◌∙◌, inl, inr, arith}
 use Rattle.std.specs.Prelude.{slice_get}
 use Rattle.std.proofs.lemmas.Option.{same_Some}
 use Rattle.affc_rows.specs.Forms.{values_of, columns_of, HaveColumns}
@@ -31,7 +31,7 @@ use Rattle.affc_loops.specs.Loops.{Scheduled, scheduled_from, loop_names, locals
 use Rattle.affc_loops.specs.Between.{LiesBetween, body_between}
 use Rattle.affc_loops.proofs.Boxed.{Encloses}
 use Rattle.affc_loops.proofs.Guarded.{guarded_does}
-use Rattle.affc_loops.proofs.Guards.{guard_tests, see_outwards}
+use Rattle.affc_loops.proofs.Guards.{guard_tests, all_true_at, see_outwards}
 use Rattle.affc_loops.proofs.MovedTrees.{moved_effect}
 use Rattle.affc_loops.proofs.NestEffects.{done_by, one_if, one_block, loops_do}
 use Rattle.affc_loops.proofs.Scheduled.{loops_are, shape_of, is_scheduled_at, has_scheduled, scheduled_rise}
@@ -72,7 +72,7 @@ abbrev pub tests_pass : (p : List ℤ) → (more : ℕ) → Scheduled → List �
 tests_pass p more e t =
     let from = length p + more in
     let names = p ++ (t ++ found p e t) in
-    all_hold (box_tests from e.ranges) names && (all_hold (time_tests (length p) from (length p) e.times.forms) names && all_hold (guard_tests (length p) more from e.around) names)
+    all_hold (box_tests from e.ranges) names && (all_hold (time_tests (length p) from (length p) e.times.forms) names && all_true_at (guard_tests (length p) more from e.around) names)
 
 -- what a block takes
 pub record Fine (p : List ℤ) (more : ℕ) (e : Scheduled) : Type 0 where
@@ -107,8 +107,8 @@ module _ (source : Program) (p : List ℤ) (more : ℕ) where
       ∙ one_if (box_tests from e.ranges) second names
       ∙ ap (λ l. if all_hold (box_tests from e.ranges) names then l else []) (one_if (time_tests (length p) from (length p) e.times.forms) third names
       ∙ ap (λ l. if all_hold (time_tests (length p) from (length p) e.times.forms) names then l else []) (guarded_does (length p) more from e.around inner names
-      ∙ ap (λ l. if all_hold (guard_tests (length p) more from e.around) names then l else []) does))
-      ∙ nested (all_hold (box_tests from e.ranges) names) (all_hold (time_tests (length p) from (length p) e.times.forms) names) (all_hold (guard_tests (length p) more from e.around) names) (effect source p (runs e t) ∷ [])
+      ∙ ap (λ l. if all_true_at (guard_tests (length p) more from e.around) names then l else []) does))
+      ∙ nested (all_hold (box_tests from e.ranges) names) (all_hold (time_tests (length p) from (length p) e.times.forms) names) (all_true_at (guard_tests (length p) more from e.around) names) (effect source p (runs e t) ∷ [])
       ∙ map_if (effect source p) (tests_pass p more e t) (runs e t)
 
   blocks_do : (es : List Scheduled) (t : List ℤ) → length t ≡ more → ((e : Scheduled) → IsIn e es → Fine p more e × (slice_get (assignments source) e.statement ≡ Some e.assignment))
@@ -129,10 +129,10 @@ module _ (source : Program) (p : List ℤ) (more : ℕ) where
       ap (λ u. all_hold (time_tests (length p) u (length p) e.times.forms) (p ++ (t ++ xs))) n
 
   guards_tested : (e : Scheduled) (t xs : List ℤ) → length t ≡ more → see_outwards (length p) e.around ≡ true → length (loop_names e.around) ≡ length xs
-      → all_hold (guard_tests (length p) more (length p + more) e.around) (p ++ (t ++ xs)) ≡ turns e.around p xs
+      → all_true_at (guard_tests (length p) more (length p + more) e.around) (p ++ (t ++ xs)) ≡ turns e.around p xs
   guards_tested e t xs l s n =
       let from : length p + more ≡ length (p ++ (t ++ [])) = ap (λ u. length p + u) (sym l) ∙ sym (length_append p t) ∙ ap (λ m. length (p ++ m)) (sym (append_nil t)) in
-      ap (λ u. all_hold (guard_tests (length p) u (length p + more) e.around) (p ++ (t ++ xs))) (sym l)
+      ap (λ u. all_true_at (guard_tests (length p) u (length p + more) e.around) (p ++ (t ++ xs))) (sym l)
       ∙ guards_hold p t e.around [] xs (length p + more) from (subst (λ m. see_outwards (length m) e.around ≡ true) (sym (append_nil p)) s) n
       ∙ ap (λ m. turns e.around m xs) (append_nil p)
 
@@ -224,8 +224,8 @@ module _ (source : Program) (n : ℕ) (maps : List TimeMap) (ends : List (Ix × 
       let xs : List ℤ = found p e t in
       let names : List ℤ = p ++ (t ++ xs) in
       let from : ℕ = length p + more in
-      let b = both_true (all_hold (box_tests from e.ranges) names) (all_hold (time_tests (length p) from (length p) e.times.forms) names && all_hold (guard_tests (length p) more from e.around) names) pass in
-      let c = both_true (all_hold (time_tests (length p) from (length p) e.times.forms) names) (all_hold (guard_tests (length p) more from e.around) names) b.1 in
+      let b = both_true (all_hold (box_tests from e.ranges) names) (all_hold (time_tests (length p) from (length p) e.times.forms) names && all_true_at (guard_tests (length p) more from e.around) names) pass in
+      let c = both_true (all_hold (time_tests (length p) from (length p) e.times.forms) names) (all_true_at (guard_tests (length p) more from e.around) names) b.1 in
       let time : values_of e.times.forms (p ++ xs) ≡ t =
       true_times p t xs e.times.forms [] t (length p) (ap length (sym (append_nil p))) refl (forms_wide e t f) (f.components ∙ sym l) (sym (times_tested source p more e t xs l) ∙ c.0) in
       let run : turns e.around p xs ≡ true = sym (guards_tested source p more e t xs l f.outwards (found_length e t f)) ∙ c.1 in
@@ -259,14 +259,14 @@ module _ (source : Program) (n : ℕ) (maps : List TimeMap) (ends : List (Ix × 
       let times_hold : all_hold (time_tests (length p) from (length p) e.times.forms) names ≡ true =
       times_tested source p more e t xs l
       ∙ times_true p t xs e.times.forms [] t (length p) (ap length (sym (append_nil p))) refl (forms_wide e t f) (ap (λ u. values_of (m.0).forms (p ++ u)) back ∙ sym time) in
-      let guards_hold' : all_hold (guard_tests (length p) more from e.around) names ≡ true =
+      let guards_hold' : all_true_at (guard_tests (length p) more from e.around) names ≡ true =
       guards_tested source p more e t xs l f.outwards (found_length e t f) ∙ ap (turns run.0 p) back ∙ run.2 in (
         e,
         in_all,
         (let z : 0 + k ≡ k = omega arith in z),
         within,
-        true_both (all_hold (box_tests from e.ranges) names) (all_hold (time_tests (length p) from (length p) e.times.forms) names && all_hold (guard_tests (length p) more from e.around) names) boxes_hold
-            (true_both (all_hold (time_tests (length p) from (length p) e.times.forms) names) (all_hold (guard_tests (length p) more from e.around) names) times_hold guards_hold'),
+        true_both (all_hold (box_tests from e.ranges) names) (all_hold (time_tests (length p) from (length p) e.times.forms) names && all_true_at (guard_tests (length p) more from e.around) names) boxes_hold
+            (true_both (all_hold (time_tests (length p) from (length p) e.times.forms) names) (all_true_at (guard_tests (length p) more from e.around) names) times_hold guards_hold'),
         back,
       )
 

@@ -1,41 +1,68 @@
 -- What stands round a statement as tests in one list, and what plain programs give of it.
-use Rattle.std.proofs.Common.{◌≡◌, ℕ, suc, ◌+◌, Bool, true, ◌&&◌, IsTrue, List, [], ◌∷◌, ◌++◌, length, map, refl, sym, ap, ◌∙◌, arith}
+use Rattle.std.proofs.Common.{◌≡◌, ℕ, suc, ◌+◌, ℤ, Bool, true, ◌&&◌, IsTrue, List, [], ◌∷◌, length, refl, sym, ap, ◌∙◌, arith}
 use Rattle.std.specs.Prelude.{nat_lt}
-use Rattle.std.specs.List.{list_all}
-use Rattle.affc_ast.specs.declared.tree.Compare.{Compare}
+use Rattle.affc_ast.specs.declared.tree.Cond.{Cond}
+use Rattle.affc_ast.specs.declared.tree.Cond.TheVariants as d
+use Rattle.affc_ast.specs.declared.tree.Cond.TheBlock.{Row_of-Cond, more_of-Cond, end_of-Cond}
+use Rattle.affc_ast.specs.declared.tree.Cond.TheOpen as layer
+use Rattle.affc_ast.specs.declared.tree.Cond.TheOpen.{Cond-F}
+use Rattle.affc_ast.specs.declared.tree.Ix.{Ix}
 use Rattle.affc_ast.specs.declared.tree.Rel.TheVariants.{LessEqual}
+use Rattle.affc_ast.specs.Fits.{all_true, is_true_at}
+use Rattle.affc_ast.specs.Pieces.{comparisons_of}
+use Rattle.affc_ast.specs.Recursion.{by_cond, by_entries}
 use Rattle.affc_domain.specs.Affine.{sees}
-use Rattle.affc_domain.specs.Plain.{is_plain, is_upward, plain_tests}
+use Rattle.affc_domain.specs.Plain.{is_plain, is_upward, plain_cond_step, plain_cond}
 use Rattle.affc_domain.specs.Rounds.{Round, Loop, Test, loops_in}
 use Rattle.affc_domain.proofs.Lists.{both_true, true_both}
 use Rattle.affc_domain.proofs.PlainLemmas.{plain_rounds}
 use Rattle.affc_loops.specs.Loops.{loop_names}
-use Rattle.affc_loops.specs.Trees.{name_at, moved, moved_compare}
+use Rattle.affc_loops.specs.Trees.{name_at, moved, moved_cond}
 
-abbrev pub guard_tests : (first more : ℕ) → (from : ℕ) → List Round → List Compare
+abbrev pub guard_tests : (first more : ℕ) → (from : ℕ) → List Round → List Cond
 guard_tests first more from [] = []
 guard_tests first more from (Loop iter low rel high ∷ rs) =
-    record { rel = LessEqual; left = moved first more low; right = name_at from }
-    ∷ record { rel = rel; left = name_at from; right = moved first more high }
-    ∷ guard_tests first more (suc from) rs
-guard_tests first more from (Test conds ∷ rs) = map (moved_compare first more) conds ++ guard_tests first more from rs
+    d.Compare LessEqual (moved first more low) (name_at from) ∷ d.Compare rel (name_at from) (moved first more high) ∷ guard_tests first more (suc from) rs
+guard_tests first more from (Test cond ∷ rs) = moved_cond first more cond ∷ guard_tests first more from rs
 
--- both sides hold only the first names
-abbrev pub both_see : ℕ → Compare → Bool
-both_see n c = sees n c.left && sees n c.right
+abbrev pub all_true_at : List Cond → (names : List ℤ) → Bool
+all_true_at [] names = true
+all_true_at (c ∷ cs) names = is_true_at c names && all_true_at cs names
+
+abbrev pub sees_cond_step : ℕ → Cond-F Bool → Bool
+sees_cond_step n (layer.Compare rel left right) = sees n left && sees n right
+sees_cond_step n (layer.All bs) = all_true bs
+sees_cond_step n (layer.Any bs) = all_true bs
+sees_cond_step n (layer.Divides value by so) = sees n value
+
+-- all its expressions hold only the first names
+abbrev pub sees_cond : ℕ → Cond → Bool
+sees_cond n cond = by_cond (sees_cond_step n) cond
 
 -- bounds and conditions hold only the names outside, and a loop goes on below a bound or up to it
 abbrev pub see_outwards : ℕ → List Round → Bool
 see_outwards n [] = true
 see_outwards n (Loop iter low rel high ∷ rs) = sees n low && (sees n high && (is_upward rel && see_outwards (suc n) rs))
-see_outwards n (Test conds ∷ rs) = list_all (both_see n) conds && see_outwards n rs
+see_outwards n (Test cond ∷ rs) = sees_cond n cond && see_outwards n rs
 
-plain_sees : (n : ℕ) (cs : List Compare) → IsTrue (plain_tests n cs) → list_all (both_see n) cs ≡ true
-plain_sees n [] h = refl
-plain_sees n (c ∷ cs) h =
-    let a = both_true (is_plain n c.left) _ h in
-    let b = both_true (is_plain n c.right) (plain_tests n cs) a.1 in
-    true_both (both_see n c) (list_all (both_see n) cs) (true_both (sees n c.left) (sees n c.right) (both_true (sees n c.left) _ a.0).0 (both_true (sees n c.right) _ b.0).0) (plain_sees n cs b.1)
+module _ (n : ℕ) where
+  plain_sees : (e : Ix) → IsTrue (is_plain n e) → sees n e ≡ true
+  plain_sees e h = (both_true (sees n e) _ h).0
+
+  mutual
+    plain_cond_sees : (x : Cond) → IsTrue (plain_cond n x) → sees_cond n x ≡ true
+    plain_cond_sees (d.Compare rel left right) h =
+        let b = both_true (is_plain n left) (is_plain n right) h in
+        true_both (sees n left) (sees n right) (plain_sees left b.0) (plain_sees right b.1)
+    plain_cond_sees (d.All' shape entries) h = plain_entries_see entries h
+    plain_cond_sees (d.Any' shape entries) h = plain_entries_see entries h
+    plain_cond_sees (d.Divides value by so) h = plain_sees value (both_true (is_plain n value) _ h).0
+
+    plain_entries_see : {m : _} (entries : Row_of-Cond m) → IsTrue (all_true (by_entries (plain_cond_step n) entries)) → all_true (by_entries (sees_cond_step n) entries) ≡ true
+    plain_entries_see end_of-Cond h = refl
+    plain_entries_see (more_of-Cond x rest) h =
+        let b = both_true (plain_cond n x) (all_true (by_entries (plain_cond_step n) rest)) h in
+        true_both (sees_cond n x) (all_true (by_entries (sees_cond_step n) rest)) (plain_cond_sees x b.0) (plain_entries_see rest b.1)
 
 pub plain_outwards : (params loops comparisons : ℕ) (rs : List Round) → IsTrue (plain_rounds params loops comparisons rs) → see_outwards (params + loops) rs ≡ true
 plain_outwards params loops comparisons [] h = refl
@@ -45,15 +72,15 @@ plain_outwards params loops comparisons (Loop iter low rel high ∷ rs) h =
     let c = both_true (is_plain (params + loops) low) _ b.1 in
     let d = both_true (is_plain (params + loops) high) (plain_rounds params (suc loops) comparisons rs) c.1 in
     let next : params + suc loops ≡ suc (params + loops) = omega arith in
-    true_both (sees (params + loops) low) _ (both_true (sees (params + loops) low) _ c.0).0
-    (true_both (sees (params + loops) high) _ (both_true (sees (params + loops) high) _ d.0).0
+    true_both (sees (params + loops) low) _ (plain_sees (params + loops) low c.0)
+    (true_both (sees (params + loops) high) _ (plain_sees (params + loops) high d.0)
     (true_both (is_upward rel) _ b.0 (ap (λ n. see_outwards n rs) (sym next) ∙ plain_outwards params (suc loops) comparisons rs d.1)))
-plain_outwards params loops comparisons (Test conds ∷ rs) h =
-    let a = both_true (plain_tests (params + loops) conds) (plain_rounds params loops (comparisons + length conds) rs) h in
-    true_both (list_all (both_see (params + loops)) conds) _ (plain_sees (params + loops) conds a.0) (plain_outwards params loops (comparisons + length conds) rs a.1)
+plain_outwards params loops comparisons (Test cond ∷ rs) h =
+    let a = both_true (plain_cond (params + loops) cond) (plain_rounds params loops (comparisons + comparisons_of cond) rs) h in
+    true_both (sees_cond (params + loops) cond) _ (plain_cond_sees (params + loops) cond a.0) (plain_outwards params loops (comparisons + comparisons_of cond) rs a.1)
 
 -- as many names as loops
 pub names_count : (rs : List Round) → length (loop_names rs) ≡ loops_in rs
 names_count [] = refl
 names_count (Loop iter low rel high ∷ rs) = ap suc (names_count rs)
-names_count (Test conds ∷ rs) = names_count rs
+names_count (Test cond ∷ rs) = names_count rs

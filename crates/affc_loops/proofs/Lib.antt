@@ -2,6 +2,7 @@ pub mod PointsOrder
 pub mod ScannedOrder
 pub mod FormTrees
 pub mod MovedTrees
+pub mod AllOf
 pub mod NestEffects
 pub mod Guards
 pub mod Tests

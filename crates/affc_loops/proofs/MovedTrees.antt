@@ -1,21 +1,20 @@
 -- Where more names stand in sight, the moved expression gives what the source's gives.
-use Rattle.std.proofs.Common.{◌≡◌, ℕ, zero, suc, ◌+◌, ◌-◌, ◌<◌, ◌≤◌, ℤ, pos, ◌+ℤ◌, ◌-ℤ◌, ◌*ℤ◌, neg_ℤ, Bool, true, false, nat_lt, ◌&&◌, if◌then◌else◌, Some, List, [], ◌∷◌, ◌++◌, length, get_or, map, refl, sym, ap, ◌∙◌, arith}
+use Rattle.std.proofs.Common.{◌≡◌, ℕ, zero, suc, ◌+◌, ◌-◌, ◌<◌, ◌≤◌, ℤ, pos, ◌+ℤ◌, ◌-ℤ◌, ◌*ℤ◌, neg_ℤ, Bool, true, false, nat_lt, if◌then◌else◌, Some, List, [], ◌∷◌, ◌++◌, length, get_or, map, refl, sym, ap, ◌∙◌, arith}
 use Rattle.std.proofs.lemmas.Bool.{ltb-true, ltb-false}
 use Rattle.std.specs.Int.{int_max, int_min}
-use Rattle.affc_ast.specs.declared.tree.Compare.{Compare}
 use Rattle.affc_ast.specs.declared.tree.Ix.{Ix}
 use Rattle.affc_ast.specs.declared.tree.Ix.TheVariants as c
 use Rattle.affc_ast.specs.declared.tree.Ix.TheBlock.{more_of-Ix, end_of-Ix}
 use Rattle.affc_ast.specs.declared.tree.Val.{Val}
 use Rattle.affc_ast.specs.declared.tree.Val.TheVariants as v
 use Rattle.affc_ast.specs.declared.tree.Val.TheBlock.{more_of-Val, end_of-Val}
-use Rattle.affc_ast.specs.Fits.{whole_step, whole, holds, all_hold}
-use Rattle.affc_ast.specs.Index.{floor_of, ceiling_of, remainder_of, compares}
+use Rattle.affc_ast.specs.Fits.{whole_step, whole}
+use Rattle.affc_ast.specs.Index.{floor_of, ceiling_of, remainder_of}
 use Rattle.affc_ast.specs.Store.{Element}
 use Rattle.affc_ast.specs.Trace.{loads_step, loads_of_value, element, Assignment, own_load}
 use Rattle.affc_ast.specs.Values.{operate, complement, shifted, converted}
 use Rattle.affc_trace.specs.Effects.{Taking, taking_step, taking, then_taking, taken, combining, effect_by}
-use Rattle.affc_loops.specs.Trees.{moved_name, moved, moved_compare, moved_value}
+use Rattle.affc_loops.specs.Trees.{moved_name, moved, moved_value}
 use Rattle.affc_ast.proofs.Steps.{neg_here, floord_here, ceild_here, add_here, sub_here, mul_here, min_here, max_here, mod_here, not_here, bin_here, shift_here}
 
 -- ---- names
@@ -82,13 +81,6 @@ module _ (p t rest : List ℤ) where
   pub moved_are : (es : List Ix) → map (λ e. whole e new) (map to_new es) ≡ map (λ e. whole e old) es
   moved_are [] = refl
   moved_are (e ∷ es) = ap (λ x. x ∷ map (λ e. whole e new) (map to_new es)) (moved_is e) ∙ ap (λ l. whole e old ∷ l) (moved_are es)
-
-  pub moved_holds : (cs : List Compare) → all_hold (map (moved_compare (length p) (length t)) cs) new ≡ all_hold cs old
-  moved_holds [] = refl
-  moved_holds (d ∷ cs) =
-      ap (λ x. compares d.rel x (whole (to_new d.right) new) && all_hold (map (moved_compare (length p) (length t)) cs) new) (moved_is d.left)
-      ∙ ap (λ x. compares d.rel (whole d.left old) x && all_hold (map (moved_compare (length p) (length t)) cs) new) (moved_is d.right)
-      ∙ ap (λ b. holds d old && b) (moved_holds cs)
 
   abbrev to_new_value : Val → Val
   to_new_value = moved_value (length p) (length t)

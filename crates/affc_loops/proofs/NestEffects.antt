@@ -2,12 +2,13 @@
 use Rattle.std.proofs.Common.{◌≡◌, ℕ, suc, ℤ, if◌then◌else◌, List, [], ◌∷◌, ◌++◌, map, flat_map, refl, sym, ap, ◌∙◌}
 use Rattle.std.proofs.lemmas.List.Concat.{flat_map-append}
 use Rattle.affc_ast.specs.declared.tree.Compare.{Compare}
+use Rattle.affc_ast.specs.declared.tree.Cond.{Cond}
 use Rattle.affc_ast.specs.declared.tree.Ix.{Ix}
 use Rattle.affc_ast.specs.declared.tree.Local.{Local}
 use Rattle.affc_ast.specs.declared.tree.Rel.TheVariants.{LessEqual}
 use Rattle.affc_ast.specs.declared.tree.Stmt.{Stmt}
-use Rattle.affc_ast.specs.declared.tree.Stmt.TheVariants.{For, Block}
-use Rattle.affc_ast.specs.Fits.{whole, all_hold}
+use Rattle.affc_ast.specs.declared.tree.Stmt.TheVariants.{For, If, Block}
+use Rattle.affc_ast.specs.Fits.{whole, all_hold, is_true_at}
 use Rattle.affc_ast.specs.Meaning.{turns_of}
 use Rattle.affc_ast.specs.Recursion.{by_stmt}
 use Rattle.affc_ast.specs.Store.{Element}
@@ -16,9 +17,10 @@ use Rattle.affc_ast.proofs.Steps.{for_here, if_here, block_here}
 use Rattle.affc_trace.specs.Law.{Effect}
 use Rattle.affc_trace.specs.Effects.{with_all, each_of, effects_step}
 use Rattle.affc_trace.proofs.LastStores.{append_nil, push_append}
+use Rattle.affc_loops.proofs.AllOf.{all_of_true}
 use Rattle.affc_loops.proofs.PointsOrder.{numbers_of, points}
 use Rattle.affc_loops.specs.Between.{loops_between}
-use Rattle.affc_loops.specs.Loops.{time_name, if_any}
+use Rattle.affc_loops.specs.Loops.{time_name, all_of, if_any}
 
 -- ---- lists
 
@@ -46,11 +48,15 @@ one_for iter low high body names =
     ap (λ f. f names ++ []) (for_here effects_step iter low LessEqual high body)
     ∙ append_nil (flat_map (λ x. done_by body (names ++ x ∷ [])) (count_from (turns_of LessEqual (whole low names) (whole high names)) (whole low names)))
 
+pub one_test : (cond : Cond) (body : List Stmt) (names : List ℤ) → done_by (If cond body [] ∷ []) names ≡ (if is_true_at cond names then done_by body names else [])
+one_test cond body names =
+    ap (λ f. f names ++ []) (if_here effects_step cond body [])
+    ∙ append_nil (if is_true_at cond names then done_by body names else [])
+
 pub one_if : (conds : List Compare) (body : List Stmt) (names : List ℤ) → done_by (if_any conds body) names ≡ (if all_hold conds names then done_by body names else [])
 one_if [] body names = refl
 one_if (c ∷ cs) body names =
-    ap (λ f. f names ++ []) (if_here effects_step (c ∷ cs) body)
-    ∙ append_nil (if all_hold (c ∷ cs) names then done_by body names else [])
+    one_test (all_of c cs) body names ∙ ap (λ b. if b then done_by body names else []) (all_of_true c cs names)
 
 pub one_block : (locals : List Local) (body : List Stmt) (names : List ℤ) → by_stmt effects_step (Block locals body) names ≡ done_by body (with_all locals names)
 one_block locals body names = ap (λ f. f names) (block_here effects_step locals body)

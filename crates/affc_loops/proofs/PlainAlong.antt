@@ -2,16 +2,16 @@
 use Rattle.std.proofs.Common.{◌≡◌, ℕ, suc, ◌+◌, ◌<◌, ◌≤◌, ℤ, true, ◌&&◌, IsTrue, List, [], ◌∷◌, ◌++◌, length, Some, sym, ap, subst, inl, inr, arith}
 use Rattle.std.specs.Prelude.{slice_get, nat_lt}
 use Rattle.std.proofs.lemmas.Bool.{ltb-true}
-use Rattle.affc_ast.specs.declared.tree.Compare.{Compare}
 use Rattle.affc_ast.specs.declared.tree.Instance.{Instance}
 use Rattle.affc_ast.specs.declared.tree.Program.{Program}
+use Rattle.affc_ast.specs.Pieces.{comparisons_of}
 use Rattle.affc_ast.specs.Trace.{Assignment, assignments, trace, element}
 use Rattle.affc_system.specs.Boxes.{InBox}
 use Rattle.affc_trace.specs.Law.{IsIn}
 use Rattle.affc_trace.specs.Effects.{effect_by}
 use Rattle.affc_trace.proofs.Runs.{length_append}
 use Rattle.affc_domain.specs.Arrays.{declared_arrays, extents_at}
-use Rattle.affc_domain.specs.Plain.{is_plain, is_upward, plain_tests}
+use Rattle.affc_domain.specs.Plain.{is_plain, is_upward, plain_cond}
 use Rattle.affc_domain.specs.Ranges.{is_near}
 use Rattle.affc_domain.specs.Rounds.{Round, Loop, Test, rounds, turns}
 use Rattle.affc_domain.proofs.Lists.{both_true}
@@ -19,17 +19,10 @@ use Rattle.affc_domain.proofs.PlainLemmas.{plain_rounds}
 use Rattle.affc_domain.proofs.TurnLemmas.{instances_turn}
 use Rattle.affc_safe.specs.Overflow.{near_ranges, NeverOverflows}
 use Rattle.affc_safe.specs.Safe.{KeepsWithin}
-use Rattle.affc_safe.proofs.Along.{AreRead, ReadAlong}
-use Rattle.affc_safe.proofs.PlainReads.{Near, near_push, near_between, plain_reads}
+use Rattle.affc_safe.proofs.Along.{ReadAlong}
+use Rattle.affc_safe.proofs.PlainReads.{Near, near_push, near_between, plain_reads, plain_cond_reads}
 use Rattle.affc_safe.proofs.Walk.{own_and}
 use Rattle.affc_loops.proofs.PrintedRuns.{Kept}
-
-tests_read : (n : ℕ) (names : List ℤ) (cs : List Compare) → n ≡ length names → Near names → IsTrue (plain_tests n cs) → AreRead cs names
-tests_read n names [] l near h = tt
-tests_read n names (c ∷ cs) l near h =
-    let a = both_true (is_plain n c.left) _ h in
-    let b = both_true (is_plain n c.right) (plain_tests n cs) a.1 in
-    ((0, plain_reads n names c.left l near a.0 0), (0, plain_reads n names c.right l near b.0 0), λ e. tests_read n names cs l near b.1)
 
 pub plain_along : (params loops comparisons : ℕ) (rs : List Round) (box : List (ℤ × ℤ)) (names xs : List ℤ) → params ≤ 4 → IsTrue (plain_rounds params loops comparisons rs)
     → params + loops ≡ length names → Near names → InBox box xs → IsTrue (near_ranges box) → ReadAlong rs names xs
@@ -52,9 +45,9 @@ plain_along params loops comparisons (Loop iter low rel high ∷ rs) (r ∷ box)
           plain_along params (suc loops) comparisons rs box (names ++ x ∷ []) xs few e.1 next
           (near_push names x near room (near_between r.0 r.1 x b.0 b.1 t.0)) b.2 t.1,
     )
-plain_along params loops comparisons (Test conds ∷ rs) box names xs few h l near b n =
-    let a = both_true (plain_tests (params + loops) conds) (plain_rounds params loops (comparisons + length conds) rs) h in
-    (tests_read (params + loops) names conds l near a.0, λ e. plain_along params loops (comparisons + length conds) rs box names xs few a.1 l near b n)
+plain_along params loops comparisons (Test cond ∷ rs) box names xs few h l near b n =
+    let a = both_true (plain_cond (params + loops) cond) (plain_rounds params loops (comparisons + comparisons_of cond) rs) h in
+    ((0, plain_cond_reads (params + loops) names cond l near a.0 0), λ e. plain_along params loops (comparisons + comparisons_of cond) rs box names xs few a.1 l near b n)
 
 -- where its iterators turn, an assignment is an instance's
 pub kept_at : (source : Program) (p : List ℤ) → NeverOverflows source p → KeepsWithin source p

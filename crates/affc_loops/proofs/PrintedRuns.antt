@@ -5,15 +5,17 @@ use Rattle.std.specs.List.{All}
 use Rattle.std.proofs.lemmas.Int.{ints}
 use Rattle.affc_rows.specs.Forms.{values_of, magnitude, HaveColumns}
 use Rattle.affc_ast.specs.declared.tree.Compare.{Compare}
+use Rattle.affc_ast.specs.declared.tree.Cond.{Cond}
 use Rattle.affc_ast.specs.declared.tree.Instance.{Instance}
 use Rattle.affc_ast.specs.declared.tree.Local.{Local}
 use Rattle.affc_ast.specs.declared.tree.Ix.{Ix}
 use Rattle.affc_ast.specs.declared.tree.Program.{Program}
 use Rattle.affc_ast.specs.declared.tree.Rel.TheVariants.{LessEqual}
 use Rattle.affc_ast.specs.declared.tree.Stmt.{Stmt}
-use Rattle.affc_ast.specs.declared.tree.Stmt.TheVariants.{Block}
-use Rattle.affc_ast.specs.Fits.{whole, holds, all_hold}
-use Rattle.affc_ast.specs.Index.{conditions, index_value, nodes_of_ix}
+use Rattle.affc_ast.specs.declared.tree.Stmt.TheVariants.{If, Block}
+use Rattle.affc_ast.specs.Conditions.{condition}
+use Rattle.affc_ast.specs.Fits.{whole, holds, all_hold, is_true_at}
+use Rattle.affc_ast.specs.Index.{index_value, nodes_of_ix}
 use Rattle.affc_ast.specs.Meaning.{State, Outcome, Position, turns_of, in_order, past, with_iterator, with_locals, stmt_step, denotation_of, assigned}
 use Rattle.affc_ast.specs.Store.{Store}
 use Rattle.affc_ast.specs.Trace.{Assignment, assignments, trace, loads_of_value}
@@ -35,19 +37,20 @@ use Rattle.affc_safe.specs.Overflow.{AreReadable, ReadsValue, ReadsAssignment}
 use Rattle.affc_safe.proofs.Along.{ReadAlong}
 use Rattle.affc_safe.proofs.PlainReads.{small_is_int64}
 use Rattle.affc_safe.proofs.Walk.{AllWithin, Wanting, assign_case, done_or_wants}
-use Rattle.affc_safe.proofs.Wants.{Wants, wants_ended, wants_then, wants_reading, wants_if, wants_turns, ReadableAll, conditions_read}
+use Rattle.affc_safe.proofs.Wants.{Wants, wants_ended, wants_then, wants_reading, wants_if, wants_turns, IsReadableCond}
 use Rattle.affc_loops.specs.Limits.{IsSmall}
-use Rattle.affc_loops.specs.Loops.{Scheduled, scheduled_from, loop_names, locals_of, box_tests, time_tests, guarded, if_any, moved_assign, block_of, time_name}
+use Rattle.affc_loops.specs.Loops.{Scheduled, scheduled_from, loop_names, locals_of, box_tests, time_tests, guarded, as_condition, all_of, if_any, moved_assign, block_of, time_name}
 use Rattle.affc_loops.specs.Between.{LiesBetween, RunWithin, loops_between, body_between}
-use Rattle.affc_loops.specs.Trees.{name_at, moved, moved_compare, moved_value}
+use Rattle.affc_loops.specs.Trees.{name_at, moved, moved_cond, moved_value}
 use Rattle.affc_loops.proofs.Boxed.{Encloses, Small, box_length}
 use Rattle.affc_loops.proofs.Does.{Fine, parts, fine}
-use Rattle.affc_loops.proofs.Guards.{guard_tests, see_outwards}
+use Rattle.affc_loops.proofs.AllOf.{all_of_true, ReadableConds, all_of_reads}
+use Rattle.affc_loops.proofs.Guards.{guard_tests, all_true_at, see_outwards}
 use Rattle.affc_loops.proofs.MovedReads.{all_readable_move, value_moves}
 use Rattle.affc_loops.proofs.MovedTrees.{moved_are, moved_loads}
 use Rattle.affc_loops.proofs.Scheduled.{is_scheduled_at}
 use Rattle.affc_loops.proofs.PointsOrder.{in_numbers}
-use Rattle.affc_loops.proofs.Tests.{all_append, guards_hold}
+use Rattle.affc_loops.proofs.Tests.{guards_hold}
 use Rattle.affc_loops.proofs.TestReads.{Inner, locals_read, box_reads, true_box, times_read, guards_read}
 
 -- ---- statements
@@ -55,40 +58,37 @@ use Rattle.affc_loops.proofs.TestReads.{Inner, locals_read, box_reads, true_box,
 abbrev pub run_all : List Stmt → Position → Scope → State → Outcome
 run_all body = in_order (map denotation_of body)
 
--- under tests that can be read
-if_wants : (conds : List Compare) (body : List Stmt) (scope : Scope) → ReadableAll conds scope.names
-    → (all_hold conds scope.names ≡ true → (here : Position) (t : State) → Wants (run_all body here scope t)) → (here : Position) (t : State) → Wants (run_all (if_any conds body) here scope t)
-if_wants [] body scope r h here t = h refl here t
-if_wants (c ∷ cs) body scope r h here t =
-    subst (λ built. Wants (in_order (built ∷ []) here scope t)) (sym (if_here stmt_step (c ∷ cs) body))
+-- under a condition that can be read
+test_wants : (cond : Cond) (body : List Stmt) (scope : Scope) → IsReadableCond cond scope.names
+    → (is_true_at cond scope.names ≡ true → (here : Position) (t : State) → Wants (run_all body here scope t)) → (here : Position) (t : State) → Wants (run_all (If cond body [] ∷ []) here scope t)
+test_wants cond body scope r h here t =
+    subst (λ built. Wants (in_order (built ∷ []) here scope t)) (sym (if_here stmt_step cond body []))
     (wants_then _ _
-    (wants_reading (conditions (c ∷ cs) (here.node + 1) scope.names) (all_hold (c ∷ cs) scope.names) t _ (conditions_read (c ∷ cs) scope.names (here.node + 1) r)
-    (wants_if (all_hold (c ∷ cs) scope.names) _ t (λ e. h e _ t)))
+    (wants_reading (condition cond (here.node + 1) scope.names) (is_true_at cond scope.names) t _ (r (here.node + 1))
+    (wants_if (is_true_at cond scope.names) _ _ (λ e. h e _ t) (λ e. wants_ended t)))
     (λ u. wants_ended u))
 
-readable_parts : (cs ds : List Compare) (names : List ℤ) → ReadableAll (cs ++ ds) names → ReadableAll cs names × (all_hold cs names ≡ true → ReadableAll ds names)
-readable_parts [] ds names r = (tt, λ e. r)
-readable_parts (c ∷ cs) ds names r = (
-  (r.0, r.1, λ e. (readable_parts cs ds names (r.2 e)).0),
-  λ e. let b = both_true (holds c names) (all_hold cs names) e in (readable_parts cs ds names (r.2 b.0)).1 b.1,
-)
+-- under comparisons
+if_wants : (conds : List Compare) (body : List Stmt) (scope : Scope) → ReadableConds (map as_condition conds) scope.names
+    → (all_hold conds scope.names ≡ true → (here : Position) (t : State) → Wants (run_all body here scope t)) → (here : Position) (t : State) → Wants (run_all (if_any conds body) here scope t)
+if_wants [] body scope r h here t = h refl here t
+if_wants (c ∷ cs) body scope r h here t = test_wants (all_of c cs) body scope (all_of_reads c cs scope.names r) (λ e. h (sym (all_of_true c cs scope.names) ∙ e)) here t
 
 -- under guards whose tests can be read
-guarded_wants : (first more from : ℕ) (gs : List Round) (body : List Stmt) (scope : Scope) → ReadableAll (guard_tests first more from gs) scope.names
-    → (all_hold (guard_tests first more from gs) scope.names ≡ true → (here : Position) (t : State) → Wants (run_all body here scope t)) → (here : Position) (t : State) → Wants (run_all (guarded first more from gs body) here scope t)
+guarded_wants : (first more from : ℕ) (gs : List Round) (body : List Stmt) (scope : Scope) → ReadableConds (guard_tests first more from gs) scope.names
+    → (all_true_at (guard_tests first more from gs) scope.names ≡ true → (here : Position) (t : State) → Wants (run_all body here scope t)) → (here : Position) (t : State) → Wants (run_all (guarded first more from gs body) here scope t)
 guarded_wants first more from [] body scope r h here t = h refl here t
 guarded_wants first more from (Loop iter low rel high ∷ gs) body scope r h here t =
     let c : Compare = record { rel = LessEqual; left = moved first more low; right = name_at from } in
     let d : Compare = record { rel = rel; left = name_at from; right = moved first more high } in
-    if_wants (c ∷ d ∷ []) (guarded first more (suc from) gs body) scope (r.0, r.1, λ e. ((r.2 e).0, (r.2 e).1, λ f. tt)) (λ held.
+    if_wants (c ∷ d ∷ []) (guarded first more (suc from) gs body) scope (r.0, λ e. ((r.1 e).0, λ f. tt)) (λ held.
     let a = both_true (holds c scope.names) (holds d scope.names && true) held in
     let b = both_true (holds d scope.names) true a.1 in
-    guarded_wants first more (suc from) gs body scope ((r.2 a.0).2 b.0) (λ rest. h (true_both (holds c scope.names) _ a.0 (true_both (holds d scope.names) _ b.0 rest)))) here t
-guarded_wants first more from (Test conds ∷ gs) body scope r h here t =
-    let cs : List Compare = map (moved_compare first more) conds in
-    let parts = readable_parts cs (guard_tests first more from gs) scope.names r in
-    if_wants cs (guarded first more from gs body) scope parts.0 (λ held.
-    guarded_wants first more from gs body scope (parts.1 held) (λ rest. h (all_append cs (guard_tests first more from gs) scope.names ∙ true_both (all_hold cs scope.names) _ held rest))) here t
+    guarded_wants first more (suc from) gs body scope ((r.1 a.0).1 b.0) (λ rest. h (true_both (holds c scope.names) _ a.0 (true_both (holds d scope.names) _ b.0 rest)))) here t
+guarded_wants first more from (Test cond ∷ gs) body scope r h here t =
+    let moved_one : Cond = moved_cond first more cond in
+    test_wants moved_one (guarded first more from gs body) scope r.0 (λ held.
+    guarded_wants first more from gs body scope (r.1 held) (λ rest. h (true_both (is_true_at moved_one scope.names) _ held rest))) here t
 
 block_wants : (locals : List Local) (body : List Stmt) (here : Position) (scope : Scope) (names : List ℤ) (t : State) → ((node : ℕ) → (i : Scope) × (with_locals locals node scope ≡ Ok i) × Inner scope i names)
     → ((i : Scope) → i.names ≡ names → i.extents ≡ scope.extents → (here : Position) (t : State) → Wants (run_all body here i t)) → Wants ((denotation_of (Block locals body)).run here scope t)
@@ -183,21 +183,21 @@ scheduled_wants p t e extents fine along kept ranges_small one_each times_small 
     let loops_are : length (loop_names e.around) ≡ length xs = fine.names ∙ sym (values_long e.times.inverse (p ++ t)) in
     let wide : HaveColumns (length p + length xs) e.times.forms = subst (λ m. HaveColumns (length p + m) e.times.forms) (sym (values_long e.times.inverse (p ++ t))) fine.wide in
     let outwards : see_outwards (length (p ++ [])) e.around ≡ true = subst (λ m. see_outwards (length m) e.around ≡ true) (sym (append_nil p)) fine.outwards in
-    let guards_are : all_hold (guard_tests (length p) (length t) from e.around) names ≡ turns e.around p xs =
+    let guards_are : all_true_at (guard_tests (length p) (length t) from e.around) names ≡ turns e.around p xs =
     guards_hold p t e.around [] xs from at_nil outwards loops_are ∙ ap (λ m. turns e.around m xs) (append_nil p) in
     block_wants (locals_of (length p) (loop_names e.around) e.times.inverse) first here scope names u
     (λ node. locals_read p t [] (loop_names e.around) e.times.inverse (length p) refl fine.names fine.inverse_wide inverse_small node scope (n ∙ ap (λ m. p ++ m) (sym (append_nil t))))
     (λ i m k.
-    if_wants (box_tests from e.ranges) second i (subst (ReadableAll (box_tests from e.ranges)) (sym m) (box_reads from e.ranges names ranges_small)) (λ boxed.
+    if_wants (box_tests from e.ranges) second i (subst (ReadableConds (map as_condition (box_tests from e.ranges))) (sym m) (box_reads from e.ranges names ranges_small)) (λ boxed.
     let inside_box : InBox e.ranges xs =
     true_box (p ++ t) xs e.ranges from at (sym loops_are ∙ sym one_each) (ap (all_hold (box_tests from e.ranges)) (append_assoc p t xs) ∙ ap (all_hold (box_tests from e.ranges)) (sym m) ∙ boxed) in
-    let guards_reads : ReadableAll (guard_tests (length p) (length t) from e.around) names =
+    let guards_reads : ReadableConds (guard_tests (length p) (length t) from e.around) names =
     guards_read p t e.around [] xs from at_nil outwards loops_are (subst (λ m. ReadAlong e.around m xs) (sym (append_nil p)) (along xs inside_box)) in
     if_wants (time_tests (length p) from (length p) e.times.forms) third i
-    (subst (ReadableAll (time_tests (length p) from (length p) e.times.forms)) (sym m)
-    (subst (λ q. ReadableAll (time_tests (length p) q (length p) e.times.forms) names) (sym at) (times_read p t xs e.times.forms (length p) wide (times_small xs inside_box)))) (λ timed.
-    guarded_wants (length p) (length t) from e.around inner i (subst (ReadableAll (guard_tests (length p) (length t) from e.around)) (sym m) guards_reads) (λ run here u.
-    let runs : turns e.around p xs ≡ true = sym guards_are ∙ ap (all_hold (guard_tests (length p) (length t) from e.around)) (sym m) ∙ run in
+    (subst (ReadableConds (map as_condition (time_tests (length p) from (length p) e.times.forms))) (sym m)
+    (subst (λ q. ReadableConds (map as_condition (time_tests (length p) q (length p) e.times.forms)) names) (sym at) (times_read p t xs e.times.forms (length p) wide (times_small xs inside_box)))) (λ timed.
+    guarded_wants (length p) (length t) from e.around inner i (subst (ReadableConds (guard_tests (length p) (length t) from e.around)) (sym m) guards_reads) (λ run here u.
+    let runs : turns e.around p xs ≡ true = sym guards_are ∙ ap (all_true_at (guard_tests (length p) (length t) from e.around)) (sym m) ∙ run in
     wants_then _ _
     (assign_case _ u (moved_wants p t xs e.assignment extents (kept xs runs) i m (k ∙ x) here.node u.store _))
     (λ v. wants_ended v)))))

@@ -9,6 +9,7 @@ use Rattle.affc_ast.specs.declared.tree.Program.{Program}
 use Rattle.affc_ast.specs.declared.tree.Stmt.{Stmt}
 use Rattle.affc_ast.specs.declared.tree.Stmt.TheVariants as s
 use Rattle.affc_ast.specs.declared.tree.Stmt.TheBlock.{Row_of-Stmt, more_of-Stmt, end_of-Stmt}
+use Rattle.affc_ast.specs.Denials.{denied}
 use Rattle.affc_ast.specs.Recursion.{by_stmt, by_each}
 use Rattle.affc_ast.specs.Trace.{Assignment}
 use Rattle.affc_trace.specs.declared.schedule.TimeMap.{TimeMap}
@@ -39,7 +40,12 @@ mutual
   rounds : (x : Stmt) (depth : ℕ) → by_stmt loops_step x depth ≡ map (deep depth) (by_stmt rounds_step x)
   rounds (s.For' iter low rel high shape body) depth =
       row_rounds body (suc depth) ∙ deeper depth (flat_map (λ a. a) (by_each rounds_step body)) (λ gs. Loop iter low rel high ∷ gs) (λ gs. omega arith)
-  rounds (s.If' conds shape body) depth = row_rounds body depth ∙ as_deep depth (flat_map (λ a. a) (by_each rounds_step body)) (λ gs. Test conds ∷ gs) (λ gs. refl)
+  rounds (s.If' cond shape body shape' other) depth =
+      let first = flat_map (λ a. a) (by_each rounds_step body) in
+      let second = flat_map (λ a. a) (by_each rounds_step other) in
+      ap (λ l. l ++ each_round (by_each loops_step other) depth) (row_rounds body depth ∙ as_deep depth first (λ gs. Test cond ∷ gs) (λ gs. refl))
+      ∙ ap (λ l. map (deep depth) (map (λ gs. Test cond ∷ gs) first) ++ l) (row_rounds other depth ∙ as_deep depth second (λ gs. Test (denied cond) ∷ gs) (λ gs. refl))
+      ∙ sym (map_append (deep depth) (map (λ gs. Test cond ∷ gs) first) (map (λ gs. Test (denied cond) ∷ gs) second))
   rounds (s.Assign op array subs value) depth = let e : depth ≡ depth + 0 = omega arith in ap (λ n. n ∷ []) e
   rounds (s.Block' locals shape body) depth = row_rounds body depth
 

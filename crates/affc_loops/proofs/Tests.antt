@@ -3,30 +3,35 @@ use Rattle.std.proofs.Common.{◌≡◌, ℕ, suc, ◌+◌, ℤ, pos, ◌+ℤ◌
 use Rattle.std.proofs.lemmas.Bool.{ltb-true}
 use Rattle.std.proofs.lemmas.Int.{ints}
 use Rattle.std.specs.Int.{int_max, int_min}
-use Rattle.std.specs.List.{list_all}
 use Rattle.affc_rows.specs.Forms.{Affine, value, values_of, HaveColumns}
 use Rattle.affc_ast.specs.declared.tree.Compare.{Compare}
+use Rattle.affc_ast.specs.declared.tree.Cond.{Cond}
+use Rattle.affc_ast.specs.declared.tree.Cond.TheVariants as d
+use Rattle.affc_ast.specs.declared.tree.Cond.TheBlock.{Row_of-Cond, more_of-Cond, end_of-Cond}
 use Rattle.affc_ast.specs.declared.tree.Ix.{Ix}
 use Rattle.affc_ast.specs.declared.tree.Ix.TheVariants as c
 use Rattle.affc_ast.specs.declared.tree.Ix.TheBlock.{more_of-Ix, end_of-Ix}
 use Rattle.affc_ast.specs.declared.tree.Rel.{Rel}
-use Rattle.affc_ast.specs.declared.tree.Rel.TheVariants.{Less, LessEqual, Greater, GreaterEqual, Equal}
-use Rattle.affc_ast.specs.Fits.{whole, holds, all_hold}
+use Rattle.affc_ast.specs.declared.tree.Rel.TheVariants.{Less, LessEqual, Greater, GreaterEqual, Equal, NotEqual}
+use Rattle.affc_ast.specs.Conditions.{divides, is_so}
+use Rattle.affc_ast.specs.Fits.{whole, all_hold, all_true, some_true, truth_step, is_true_at}
 use Rattle.affc_ast.specs.Index.{floor_of, ceiling_of, remainder_of, compares}
+use Rattle.affc_ast.specs.Recursion.{by_cond, by_entries}
+use Rattle.affc_ast.proofs.Steps.{all_here, any_here}
 use Rattle.affc_system.specs.Boxes.{InBox}
 use Rattle.affc_trace.specs.Effects.{with_all}
 use Rattle.affc_trace.proofs.EndedReads.{append_assoc}
 use Rattle.affc_trace.proofs.LastStores.{append_nil, push_append}
 use Rattle.affc_trace.proofs.Runs.{length_append}
 use Rattle.affc_domain.specs.Rounds.{Round, Loop, Test, goes_on, turns}
-use Rattle.affc_loops.specs.Trees.{number, form_tree, moved, moved_compare}
+use Rattle.affc_loops.specs.Trees.{number, form_tree, moved, moved_cond_step, moved_cond}
 use Rattle.affc_domain.specs.Affine.{sees}
 use Rattle.affc_domain.specs.Plain.{is_upward}
 use Rattle.affc_domain.proofs.Lists.{both_true, true_both, le_true, true_le, at_seam}
 use Rattle.affc_loops.specs.Loops.{loop_names, locals_of, box_tests, time_tests}
-use Rattle.affc_loops.proofs.Guards.{guard_tests, both_see, see_outwards}
+use Rattle.affc_loops.proofs.Guards.{guard_tests, all_true_at, sees_cond_step, sees_cond, see_outwards}
 use Rattle.affc_loops.proofs.FormTrees.{number_is, form_is}
-use Rattle.affc_loops.proofs.MovedTrees.{get_front, moved_is, moved_holds}
+use Rattle.affc_loops.proofs.MovedTrees.{get_front, moved_is}
 
 -- ---- expressions that hold only the first names
 
@@ -57,15 +62,6 @@ sees_front front rest (c.Max' s (more_of-Ix a end_of-Ix) t (more_of-Ix b end_of-
 sees_front front rest (c.Mod' s (more_of-Ix a end_of-Ix) t (more_of-Ix b end_of-Ix)) h =
     let q = both_true (sees (length front) a) (sees (length front) b) h in
     both remainder_of (whole a (front ++ rest)) (whole a front) (whole b (front ++ rest)) (whole b front) (sees_front front rest a q.0) (sees_front front rest b q.1)
-
-pub conds_front : (front rest : List ℤ) (cs : List Compare) → list_all (both_see (length front)) cs ≡ true → all_hold cs (front ++ rest) ≡ all_hold cs front
-conds_front front rest [] h = refl
-conds_front front rest (d ∷ cs) h =
-    let q = both_true (both_see (length front) d) (list_all (both_see (length front)) cs) h in
-    let r = both_true (sees (length front) d.left) (sees (length front) d.right) q.0 in
-    ap (λ x. compares d.rel x (whole d.right (front ++ rest)) && all_hold cs (front ++ rest)) (sees_front front rest d.left r.0)
-    ∙ ap (λ x. compares d.rel (whole d.left front) x && all_hold cs (front ++ rest)) (sees_front front rest d.right r.1)
-    ∙ ap (λ b. holds d front && b) (conds_front front rest cs q.1)
 
 -- ---- locals
 
@@ -182,20 +178,13 @@ module _ (p t xs : List ℤ) where
 
 -- ---- loops and conditions
 
-pub all_append : (cs ds : List Compare) (values : List ℤ) → all_hold (cs ++ ds) values ≡ (all_hold cs values && all_hold ds values)
-all_append [] ds values = refl
-all_append (d ∷ cs) ds values = ap (λ b. holds d values && b) (all_append cs ds values) ∙ grouped (holds d values) (all_hold cs values) (all_hold ds values)
-  where
-    grouped : (a b d : Bool) → (a && (b && d)) ≡ ((a && b) && d)
-    grouped true b d = refl
-    grouped false b d = refl
-
 pub goes : (rel : Rel) (x high : ℤ) → is_upward rel ≡ true → compares rel x high ≡ goes_on rel x high
 goes Less x high e = refl
 goes LessEqual x high e = refl
 goes Greater x high e = absurd (true≢false (sym e))
 goes GreaterEqual x high e = absurd (true≢false (sym e))
 goes Equal x high e = absurd (true≢false (sym e))
+goes NotEqual x high e = absurd (true≢false (sym e))
 
 and_same : {a a' b b' : Bool} → a ≡ a' → b ≡ b' → (a && b) ≡ (a' && b')
 and_same {a} {a'} {b} {b'} e f = ap (λ u. u && b) e ∙ ap (λ u. a' && u) f
@@ -205,8 +194,27 @@ module _ (p t : List ℤ) where
   pub outside : (done rest : List ℤ) (e : Ix) → sees (length (p ++ done)) e ≡ true → whole (moved (length p) (length t) e) (p ++ (t ++ (done ++ rest))) ≡ whole e (p ++ done)
   outside done rest e s = moved_is p t (done ++ rest) e ∙ ap (whole e) (sym (append_assoc p done rest)) ∙ sees_front (p ++ done) rest e s
 
+  mutual
+    -- and a condition of such expressions
+    pub cond_outside : (done rest : List ℤ) (x : Cond) → sees_cond (length (p ++ done)) x ≡ true → is_true_at (moved_cond (length p) (length t) x) (p ++ (t ++ (done ++ rest))) ≡ is_true_at x (p ++ done)
+    cond_outside done rest (d.Compare rel left right) s =
+        let a = both_true (sees (length (p ++ done)) left) (sees (length (p ++ done)) right) s in
+        ap (λ z. compares rel z (whole (moved (length p) (length t) right) (p ++ (t ++ (done ++ rest))))) (outside done rest left a.0) ∙ ap (compares rel (whole left (p ++ done))) (outside done rest right a.1)
+    cond_outside done rest (d.All' shape entries) s =
+        all_here (truth_step (p ++ (t ++ (done ++ rest)))) (by_entries (moved_cond_step (length p) (length t)) entries) ∙ ap all_true (entries_outside done rest entries s)
+    cond_outside done rest (d.Any' shape entries) s =
+        any_here (truth_step (p ++ (t ++ (done ++ rest)))) (by_entries (moved_cond_step (length p) (length t)) entries) ∙ ap some_true (entries_outside done rest entries s)
+    cond_outside done rest (d.Divides value by so) s = ap (λ z. is_so so (divides by z)) (outside done rest value s)
+
+    entries_outside : {n : _} (done rest : List ℤ) (entries : Row_of-Cond n) → all_true (by_entries (sees_cond_step (length (p ++ done))) entries) ≡ true
+        → map (by_cond (truth_step (p ++ (t ++ (done ++ rest))))) (by_entries (moved_cond_step (length p) (length t)) entries) ≡ by_entries (truth_step (p ++ done)) entries
+    entries_outside done rest end_of-Cond s = refl
+    entries_outside done rest (more_of-Cond x others) s =
+        let a = both_true (sees_cond (length (p ++ done)) x) (all_true (by_entries (sees_cond_step (length (p ++ done))) others)) s in
+        λ i. cond_outside done rest x a.0 i ∷ entries_outside done rest others a.1 i
+
   pub guards_hold : (gs : List Round) (done xs : List ℤ) (from : ℕ) → from ≡ length (p ++ (t ++ done)) → see_outwards (length (p ++ done)) gs ≡ true → length (loop_names gs) ≡ length xs
-      → all_hold (guard_tests (length p) (length t) from gs) (p ++ (t ++ (done ++ xs))) ≡ turns gs (p ++ done) xs
+      → all_true_at (guard_tests (length p) (length t) from gs) (p ++ (t ++ (done ++ xs))) ≡ turns gs (p ++ done) xs
   guards_hold [] done [] from e s l = refl
   guards_hold [] done (x ∷ xs) from e s l = absurd (omega arith)
   guards_hold (Loop iter low rel high ∷ gs) done [] from e s l = absurd (omega arith)
@@ -218,15 +226,12 @@ module _ (p t : List ℤ) where
       let whole_list : values ≡ (p ++ (t ++ done)) ++ x ∷ xs = ap (λ m. p ++ m) (sym (append_assoc t done (x ∷ xs))) ∙ sym (append_assoc p (t ++ done) (x ∷ xs)) in
       let here : get_or values from (pos 0) ≡ x = ap (λ n. get_or values n (pos 0)) e ∙ ap (λ m. get_or m (length (p ++ (t ++ done))) (pos 0)) whole_list ∙ at_seam (p ++ (t ++ done)) x xs in
       let next : length (p ++ (t ++ (done ++ x ∷ []))) ≡ suc (length (p ++ (t ++ done))) = ap (λ m. length (p ++ m)) (sym (append_assoc t done (x ∷ []))) ∙ sym (next_component p (t ++ done) x) in
-      let rest : all_hold (guard_tests (length p) (length t) (suc from) gs) values ≡ turns gs ((p ++ done) ++ x ∷ []) xs =
-      ap (λ m. all_hold (guard_tests (length p) (length t) (suc from) gs) (p ++ (t ++ m))) (sym (push_append done x xs))
+      let rest : all_true_at (guard_tests (length p) (length t) (suc from) gs) values ≡ turns gs ((p ++ done) ++ x ∷ []) xs =
+      ap (λ m. all_true_at (guard_tests (length p) (length t) (suc from) gs) (p ++ (t ++ m))) (sym (push_append done x xs))
       ∙ guards_hold gs (done ++ x ∷ []) xs (suc from) (ap suc e ∙ sym next) (subst (λ n. see_outwards n gs ≡ true) (next_component p done x) d.1) (omega arith)
       ∙ ap (λ m. turns gs m xs) (sym (append_assoc p done (x ∷ []))) in
       and_same (ap (λ z. int_le z (get_or values from (pos 0))) (outside done (x ∷ xs) low a.0) ∙ ap (int_le (whole low (p ++ done))) here)
       (and_same (ap (λ z. compares rel z (whole (moved (length p) (length t) high) values)) here ∙ ap (compares rel x) (outside done (x ∷ xs) high b.0) ∙ goes rel x (whole high (p ++ done)) d.0) rest)
-  guards_hold (Test conds ∷ gs) done xs from e s l =
-      let a = both_true (list_all (both_see (length (p ++ done))) conds) (see_outwards (length (p ++ done)) gs) s in
-      let values : List ℤ = p ++ (t ++ (done ++ xs)) in
-      all_append (map (moved_compare (length p) (length t)) conds) (guard_tests (length p) (length t) from gs) values
-      ∙ and_same (moved_holds p t (done ++ xs) conds ∙ ap (all_hold conds) (sym (append_assoc p done xs)) ∙ conds_front (p ++ done) xs conds a.0)
-      (guards_hold gs done xs from e a.1 l)
+  guards_hold (Test cond ∷ gs) done xs from e s l =
+      let a = both_true (sees_cond (length (p ++ done)) cond) (see_outwards (length (p ++ done)) gs) s in
+      and_same (cond_outside done xs cond a.0) (guards_hold gs done xs from e a.1 l)

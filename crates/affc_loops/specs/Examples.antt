@@ -5,13 +5,15 @@ use Rattle.std.proofs.lemmas.List.Elements.{All-nil, All-cons}
 use Rattle.std.proofs.lemmas.Option.{none-some}
 use Rattle.affc_rows.specs.Forms.{Affine, composed_form}
 use Rattle.affc_ast.specs.declared.tree.Compare.{Compare}
+use Rattle.affc_ast.specs.declared.tree.Cond.{Cond}
+use Rattle.affc_ast.specs.declared.tree.Cond.TheVariants as cond
 use Rattle.affc_ast.specs.declared.tree.Ix.{Ix}
 use Rattle.affc_ast.specs.declared.tree.Ix.TheVariants.{Lit, Name, Neg, Add, Sub, Mul}
 use Rattle.affc_ast.specs.declared.tree.Op.TheVariants as op
 use Rattle.affc_ast.specs.declared.tree.Param.TheVariants.{Number, Array}
 use Rattle.affc_ast.specs.declared.tree.Program.{Program}
 use Rattle.affc_ast.specs.declared.tree.Rel.{Rel}
-use Rattle.affc_ast.specs.declared.tree.Rel.TheVariants.{Less, LessEqual, GreaterEqual, Equal}
+use Rattle.affc_ast.specs.declared.tree.Rel.TheVariants.{Less, LessEqual, Greater, GreaterEqual, Equal}
 use Rattle.affc_ast.specs.declared.tree.Role.TheVariants.{Input, Output}
 use Rattle.affc_ast.specs.declared.tree.Stmt.{Stmt}
 use Rattle.affc_ast.specs.declared.tree.Stmt.TheVariants.{For, If, Assign, Block}
@@ -35,6 +37,9 @@ name k = Name (record { 0 = k })
 
 abbrev pub test : Ix → Rel → Ix → Compare
 test left rel right = record { rel = rel; left = left; right = right }
+
+abbrev pub compare : Ix → Rel → Ix → Cond
+compare left rel right = cond.Compare rel left right
 
 abbrev pub assign : (array : ℕ) → List Ix → Val → Stmt
 assign array subs value = Assign None (record { 0 = array }) subs value
@@ -117,7 +122,7 @@ three = record {
   context = test n GreaterEqual (lit 2) ∷ [];
   temps = [];
   body =
-      For (codes "i") (lit 0) Less n (If (test (name 1) GreaterEqual (lit 1) ∷ []) (assign 0 (name 1 ∷ []) (Const 7) ∷ []) ∷ [])
+      For (codes "i") (lit 0) Less n (If (compare (name 1) GreaterEqual (lit 1)) (assign 0 (name 1 ∷ []) (Const 7) ∷ []) [] ∷ [])
       ∷ For (codes "k") (lit 5) Less (lit 5) (assign 0 (name 1 ∷ []) (Const 8) ∷ [])
       ∷ For (codes "j") (lit 0) LessEqual (Sub n (lit 1)) (Assign (Some op.Add) (record { 0 = 0 }) (name 1 ∷ []) (Cast (name 1)) ∷ [])
       ∷ [];
@@ -125,11 +130,14 @@ three = record {
 }
 
 -- a local and the tests round a body
-abbrev block : (word : List ℕ) → Ix → (boxed timed bounded : List Compare) → List Stmt → Stmt
-block word value boxed timed bounded body = Block (record { name = word; value = value } ∷ []) (If boxed (If timed (If bounded body ∷ []) ∷ []) ∷ [])
+abbrev block : (word : List ℕ) → Ix → (boxed timed bounded : Cond) → List Stmt → Stmt
+block word value boxed timed bounded body = Block (record { name = word; value = value } ∷ []) (If boxed (If timed (If bounded body [] ∷ []) [] ∷ []) [] ∷ [])
 
-abbrev between : Ix → Ix → Ix → List Compare
-between low x high = test low LessEqual x ∷ test x LessEqual high ∷ []
+abbrev both : Cond → Cond → Cond
+both c d = cond.All (c ∷ d ∷ [])
+
+abbrev between : Ix → Ix → Ix → Cond
+between low x high = both (compare low LessEqual x) (compare x LessEqual high)
 
 -- S0 at (i - N + 1), from -8 to 7; S1 at (-k), never; S2 at (-j), from -8 to 0
 abbrev pub TimesOfThree : Type 0
@@ -143,12 +151,48 @@ abbrev pub LoopsOfThree : Type 0
 LoopsOfThree = program_between three (late ∷ backwards ∷ backwards ∷ []) ((Neg (lit 8), lit 7) ∷ []) ≡ record three {
   body =
       For (time_name 0) (Neg (lit 8)) LessEqual (lit 7) (
-      block (codes "i") (Sub (Add (name 1) n) (lit 1)) (between (lit 0) (name 2) (lit 8)) (test (name 1) Equal (Add (Sub (name 2) n) (lit 1)) ∷ [])
-      (test (lit 0) LessEqual (name 2) ∷ test (name 2) Less n ∷ [])
-      (If (test (name 2) GreaterEqual (lit 1) ∷ []) (assign 0 (name 2 ∷ []) (Const 7) ∷ []) ∷ [])
-      ∷ block (codes "j") (Neg (name 1)) (between (lit 0) (name 2) (lit 8)) (test (name 1) Equal (Neg (name 2)) ∷ [])
-      (test (lit 0) LessEqual (name 2) ∷ test (name 2) LessEqual (Sub n (lit 1)) ∷ [])
+      block (codes "i") (Sub (Add (name 1) n) (lit 1)) (between (lit 0) (name 2) (lit 8)) (compare (name 1) Equal (Add (Sub (name 2) n) (lit 1)))
+      (both (compare (lit 0) LessEqual (name 2)) (compare (name 2) Less n))
+      (If (compare (name 2) GreaterEqual (lit 1)) (assign 0 (name 2 ∷ []) (Const 7) ∷ []) [] ∷ [])
+      ∷ block (codes "j") (Neg (name 1)) (between (lit 0) (name 2) (lit 8)) (compare (name 1) Equal (Neg (name 2)))
+      (both (compare (lit 0) LessEqual (name 2)) (compare (name 2) LessEqual (Sub n (lit 1))))
       (Assign (Some op.Add) (record { 0 = 0 }) (name 2 ∷ []) (Cast (name 2)) ∷ [])
+      ∷ []
+      )
+      ∷ [];
+  prelude = true;
+}
+
+-- ---- The branches of an `if`
+
+-- if (N > 3 || N % 2 != 0) A[0] = 7; else A[0] = 9;
+abbrev branches : Program
+branches = record three {
+  context = [];
+  body = If (cond.Any (compare n Greater (lit 3) ∷ cond.Divides n (pos 2) false ∷ [])) (assign 0 (lit 0 ∷ []) (Const 7) ∷ []) (assign 0 (lit 0 ∷ []) (Const 9) ∷ []) ∷ [];
+}
+
+-- a time that is 4, over one parameter and no loop
+abbrev alone : TimeMap
+alone = record {
+  forms = record { coefs = pos 0 ∷ []; constant = pos 4 } ∷ [];
+  inverse = [];
+  shaped = All-cons (λ g. length g.coefs ≡ 1) (record { coefs = pos 0 ∷ []; constant = pos 4 }) [] refl (All-nil (λ g. length g.coefs ≡ 1));
+  inverse_shaped = All-nil (λ g. length g.coefs ≡ 2);
+  at_least_iterators = lit≤ tt;
+  inverts = λ k g e. absurd (none-some g e);
+}
+
+--   for (affc_t0 = 4; affc_t0 <= 4; affc_t0++) {
+--     { if (affc_t0 == 4) if (N > 3 || N % 2 != 0) A[0] = 7; }
+--     { if (affc_t0 == 4) if (N <= 3 && N % 2 == 0) A[0] = 9; }
+--   }
+abbrev pub LoopsOfBranches : Type 0
+LoopsOfBranches = program_between branches (alone ∷ alone ∷ []) ((lit 4, lit 4) ∷ []) ≡ record branches {
+  body =
+      For (time_name 0) (lit 4) LessEqual (lit 4) (
+      Block [] (If (compare (name 1) Equal (lit 4)) (If (cond.Any (compare n Greater (lit 3) ∷ cond.Divides n (pos 2) false ∷ [])) (assign 0 (lit 0 ∷ []) (Const 7) ∷ []) [] ∷ []) [] ∷ [])
+      ∷ Block [] (If (compare (name 1) Equal (lit 4)) (If (cond.All (compare n LessEqual (lit 3) ∷ cond.Divides n (pos 2) true ∷ [])) (assign 0 (lit 0 ∷ []) (Const 9) ∷ []) [] ∷ []) [] ∷ [])
       ∷ []
       )
       ∷ [];

@@ -3,8 +3,12 @@
 use Rattle.std.specs.Prelude.{ℕ, suc, ◌+◌, ℤ, codes, decimal, List, [], ◌∷◌, ◌++◌, Option, Some, None, map}
 use Rattle.affc_rows.specs.Forms.{Affine}
 use Rattle.affc_ast.specs.declared.tree.Compare.{Compare}
+use Rattle.affc_ast.specs.declared.tree.Cond.{Cond}
+use Rattle.affc_ast.specs.declared.tree.Cond.TheVariants as cond
+use Rattle.affc_ast.specs.declared.tree.Ix.{Ix}
 use Rattle.affc_ast.specs.declared.tree.Local.{Local}
 use Rattle.affc_ast.specs.declared.tree.Program.{Program}
+use Rattle.affc_ast.specs.declared.tree.Rel.{Rel}
 use Rattle.affc_ast.specs.declared.tree.Rel.TheVariants.{LessEqual, Equal}
 use Rattle.affc_ast.specs.declared.tree.Stmt.{Stmt}
 use Rattle.affc_ast.specs.declared.tree.Stmt.TheVariants.{If, Assign, Block}
@@ -13,7 +17,7 @@ use Rattle.affc_trace.specs.declared.schedule.TimeMap.{TimeMap}
 use Rattle.affc_domain.specs.Ranges.{Ranges, Within, number_ranges, ranges_of}
 use Rattle.affc_domain.specs.Rounds.{Round, Loop, Test, rounds}
 use Rattle.affc_loops.specs.Spans.{span, hulls}
-use Rattle.affc_loops.specs.Trees.{name_at, number, form_tree, moved, moved_compare, moved_value}
+use Rattle.affc_loops.specs.Trees.{name_at, number, form_tree, moved, moved_cond, moved_value}
 
 -- ---- The statements that can have instances
 
@@ -60,7 +64,7 @@ time_ranges params (e ∷ f ∷ es) = hulls (times_of params e) (time_ranges par
 abbrev pub loop_names : List Round → List (List ℕ)
 loop_names [] = []
 loop_names (Loop iter low rel high ∷ rs) = iter ∷ loop_names rs
-loop_names (Test conds ∷ rs) = loop_names rs
+loop_names (Test cond ∷ rs) = loop_names rs
 
 -- the iterators, by the inverse
 abbrev pub locals_of : (first : ℕ) → List (List ℕ) → List Affine → List Local
@@ -80,21 +84,29 @@ abbrev pub time_tests : (first from : ℕ) → (component : ℕ) → List Affine
 time_tests first from component [] = []
 time_tests first from component (f ∷ fs) = record { rel = Equal; left = name_at component; right = form_tree first from f } ∷ time_tests first from (suc component) fs
 
+-- a comparison as a condition
+abbrev pub as_condition : Compare → Cond
+as_condition c = cond.Compare c.rel c.left c.right
+
+-- all of these comparisons; where there is one alone, it is that one
+abbrev pub all_of : Compare → List Compare → Cond
+all_of c [] = as_condition c
+all_of c (d ∷ ds) = cond.All (map as_condition (c ∷ d ∷ ds))
+
 abbrev pub if_any : List Compare → List Stmt → List Stmt
 if_any [] body = body
-if_any (c ∷ cs) body = If (c ∷ cs) body ∷ []
+if_any (c ∷ cs) body = If (all_of c cs) body [] ∷ []
 
 -- a loop of the source lets the iterator with this name run
-abbrev pub loop_tests : (first more : ℕ) → (from : ℕ) → Round → List Compare
-loop_tests first more from (Loop iter low rel high) =
+abbrev pub loop_tests : (first more : ℕ) → (from : ℕ) → (low : Ix) → Rel → (high : Ix) → List Compare
+loop_tests first more from low rel high =
     record { rel = LessEqual; left = moved first more low; right = name_at from } ∷ record { rel = rel; left = name_at from; right = moved first more high } ∷ []
-loop_tests first more from (Test conds) = map (moved_compare first more) conds
 
 -- the body under the source's loops and conditions, one `if` for each, where the iterators have the names from `from` on
 abbrev pub guarded : (first more : ℕ) → (from : ℕ) → List Round → List Stmt → List Stmt
 guarded first more from [] body = body
-guarded first more from (Loop iter low rel high ∷ rs) body = if_any (loop_tests first more from (Loop iter low rel high)) (guarded first more (suc from) rs body)
-guarded first more from (Test conds ∷ rs) body = if_any (loop_tests first more from (Test conds)) (guarded first more from rs body)
+guarded first more from (Loop iter low rel high ∷ rs) body = if_any (loop_tests first more from low rel high) (guarded first more (suc from) rs body)
+guarded first more from (Test cond ∷ rs) body = If (moved_cond first more cond) (guarded first more from rs body) [] ∷ []
 
 abbrev pub moved_assign : (first more : ℕ) → Assignment → Stmt
 moved_assign first more a = Assign a.op a.array (map (moved first more) a.subs) (moved_value first more a.value)

@@ -1,6 +1,9 @@
 -- Affine forms as expressions, and expressions of a source where more names stand in sight.
 use Rattle.std.specs.Prelude.{ℕ, zero, suc, ◌+◌, ℤ, pos, negsuc, nat_lt, if◌then◌else◌, List, [], ◌∷◌, ◌++◌, map, take, drop}
-use Rattle.affc_ast.specs.declared.tree.Compare.{Compare}
+use Rattle.affc_ast.specs.declared.tree.Cond.{Cond}
+use Rattle.affc_ast.specs.declared.tree.Cond.TheVariants.{Compare, All, Any, Divides}
+use Rattle.affc_ast.specs.declared.tree.Cond.TheOpen as cond
+use Rattle.affc_ast.specs.declared.tree.Cond.TheOpen.{Cond-F}
 use Rattle.affc_ast.specs.declared.tree.Ix.{Ix}
 use Rattle.affc_ast.specs.declared.tree.Ix.TheVariants.{Lit, Name, Neg, Add, Sub, Mul, Min, Max, Floord, Ceild, Mod}
 use Rattle.affc_ast.specs.declared.tree.Ix.TheOpen as ix
@@ -9,7 +12,7 @@ use Rattle.affc_ast.specs.declared.tree.Val.{Val}
 use Rattle.affc_ast.specs.declared.tree.Val.TheVariants.{Load, Const, Cast, Not, Bin, Shift}
 use Rattle.affc_ast.specs.declared.tree.Val.TheOpen as val
 use Rattle.affc_ast.specs.declared.tree.Val.TheOpen.{Val-F}
-use Rattle.affc_ast.specs.Recursion.{by_ix, by_val}
+use Rattle.affc_ast.specs.Recursion.{by_ix, by_val, by_cond}
 use Rattle.affc_rows.specs.Forms.{Affine}
 
 abbrev pub name_at : ℕ → Ix
@@ -76,8 +79,15 @@ moved_step first more (ix.Mod a b) = Mod a b
 abbrev pub moved : (first more : ℕ) → Ix → Ix
 moved first more = by_ix (moved_step first more)
 
-abbrev pub moved_compare : (first more : ℕ) → Compare → Compare
-moved_compare first more c = record { rel = c.rel; left = moved first more c.left; right = moved first more c.right }
+abbrev pub moved_cond_step : (first more : ℕ) → Cond-F Cond → Cond
+moved_cond_step first more (cond.Compare rel left right) = Compare rel (moved first more left) (moved first more right)
+moved_cond_step first more (cond.All cs) = All cs
+moved_cond_step first more (cond.Any cs) = Any cs
+moved_cond_step first more (cond.Divides value by so) = Divides (moved first more value) by so
+
+-- a condition of such expressions, with the same relations and divisors
+abbrev pub moved_cond : (first more : ℕ) → Cond → Cond
+moved_cond first more = by_cond (moved_cond_step first more)
 
 abbrev pub moved_value_step : (first more : ℕ) → Val-F Val → Val
 moved_value_step first more (val.Load array subs) = Load array (map (moved first more) subs)

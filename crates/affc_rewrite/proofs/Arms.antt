@@ -2,9 +2,9 @@
 use Rattle.std.proofs.Common.{◌≡◌, ℕ, suc, ◌+◌, ◌<◌, ◌≤◌, Bool, true, false, ◌||◌, List, [], ◌∷◌, ◌++◌, length, map, drop, get_or, Option, sym, ap, ◌∙◌, arith}
 use Rattle.std.specs.Prelude.{nat_le}
 use Rattle.std.specs.List.{list_any}
-use Rattle.std.proofs.lemmas.Bool.{leb-true}
+use Rattle.std.proofs.lemmas.Bool.{leb-true, or_left, or_right}
 use Rattle.affc_ast.specs.declared.tree.ArrayId.{ArrayId}
-use Rattle.affc_ast.specs.declared.tree.Compare.{Compare}
+use Rattle.affc_ast.specs.declared.tree.Cond.{Cond}
 use Rattle.affc_ast.specs.declared.tree.Ix.{Ix}
 use Rattle.affc_ast.specs.declared.tree.Local.{Local}
 use Rattle.affc_ast.specs.declared.tree.Op.{Op}
@@ -19,7 +19,7 @@ use Rattle.affc_domain.specs.Plain.{all_plain, plain_value}
 use Rattle.affc_domain.proofs.Lists.{both_true}
 use Rattle.affc_foldloops.specs.Refolds.{Subscripts, refold_value, refold_step, each_under}
 use Rattle.affc_nest.proofs.SiteLemmas.{front}
-use Rattle.affc_rewrite.specs.Rewrite.{has_call, some_call, value_call_step, test_calls, stmt_call_step}
+use Rattle.affc_rewrite.specs.Rewrite.{has_call, some_call, value_call_step, cond_calls, stmt_call_step}
 use Rattle.affc_rewrite.specs.declared.subscripts.Folding.{Folding}
 use Rattle.affc_rewrite.specs.Sizes.{IsWalk, all_under, accesses_step}
 
@@ -32,8 +32,8 @@ module _ (at : Subscripts) (n : ℕ) where
       let next : n + 1 ≡ suc n = omega arith in
       ap (λ m. s.For iter low rel high (refolded_all m body)) next ∙ sym (ap (λ f. f n) (for_here (refold_step at) iter low rel high body)) ∙ ap (λ y. by_stmt (refold_step at) y n) (sym g)
 
-  pub if_arm : (x : Stmt) (conds : List Compare) (body : List Stmt) → x ≡ s.If conds body → s.If conds (refolded_all n body) ≡ by_stmt (refold_step at) x n
-  if_arm x conds body g = sym (ap (λ f. f n) (if_here (refold_step at) conds body)) ∙ ap (λ y. by_stmt (refold_step at) y n) (sym g)
+  pub if_arm : (x : Stmt) (cond : Cond) (body other : List Stmt) → x ≡ s.If cond body other → s.If cond (refolded_all n body) (refolded_all n other) ≡ by_stmt (refold_step at) x n
+  if_arm x cond body other g = sym (ap (λ f. f n) (if_here (refold_step at) cond body other)) ∙ ap (λ y. by_stmt (refold_step at) y n) (sym g)
 
   pub assign_arm : (x : Stmt) (op : Option Op) (array : ArrayId) (subs : List Ix) (value : Val) → x ≡ s.Assign op array subs value
       → s.Assign op array (at n array subs) (refold_value at n value) ≡ by_stmt (refold_step at) x n
@@ -51,8 +51,9 @@ module _ (at : Subscripts) (n : ℕ) (x y : Stmt) (body slice made : List Stmt) 
   pub for_made : (iter : List ℕ) (low : Ix) (rel : Rel) (high : Ix) → x ≡ s.For iter low rel high body → made ≡ refolded_all at n (n + 1) slice → y ≡ s.For iter low rel high made → y ≡ by_stmt (refold_step at) x n
   for_made iter low rel high g m e = e ∙ ap (s.For iter low rel high) (m ∙ ap (refolded_all at n (n + 1)) same) ∙ for_arm at n x iter low rel high body g
 
-  pub if_made : (conds those : List Compare) → x ≡ s.If conds body → those ≡ conds → made ≡ refolded_all at n n slice → y ≡ s.If those made → y ≡ by_stmt (refold_step at) x n
-  if_made conds those g c m e = e ∙ ap (λ cs. s.If cs made) c ∙ ap (s.If conds) (m ∙ ap (refolded_all at n n) same) ∙ if_arm at n x conds body g
+  pub if_made : (cond : Cond) (other part beside : List Stmt) → x ≡ s.If cond body other → part ≡ other → made ≡ refolded_all at n n slice → beside ≡ refolded_all at n n part → y ≡ s.If cond made beside → y ≡ by_stmt (refold_step at) x n
+  if_made cond other part beside g c m b e =
+      e ∙ ap (λ ss. s.If cond ss beside) (m ∙ ap (refolded_all at n n) same) ∙ ap (s.If cond (refolded_all at n n body)) (b ∙ ap (refolded_all at n n) c) ∙ if_arm at n x cond body other g
 
   pub block_made : (locals those : List Local) (k : ℕ) → x ≡ s.Block locals body → those ≡ locals → k ≡ n + length locals → made ≡ refolded_all at n k slice → y ≡ s.Block those made → y ≡ by_stmt (refold_step at) x n
   block_made locals those k g c l m e =
@@ -69,8 +70,8 @@ module _ (n : ℕ) where
       let q = both_true (nat_le (n + 1) 16) (all_within (n + 1) body) (sym (ap (λ y. by_stmt accesses_step y n) g ∙ ap (λ f. f n) (for_here accesses_step iter low rel high body)) ∙ h) in
       (leb-true (n + 1) 16 q.0, q.1)
 
-  pub if_plain : (x : Stmt) (conds : List Compare) (body : List Stmt) → x ≡ s.If conds body → by_stmt accesses_step x n ≡ true → all_within n body ≡ true
-  if_plain x conds body g h = sym (ap (λ y. by_stmt accesses_step y n) g ∙ ap (λ f. f n) (if_here accesses_step conds body)) ∙ h
+  pub if_plain : (x : Stmt) (cond : Cond) (body other : List Stmt) → x ≡ s.If cond body other → by_stmt accesses_step x n ≡ true → (all_within n body ≡ true) × (all_within n other ≡ true)
+  if_plain x cond body other g h = both_true (all_within n body) (all_within n other) (sym (ap (λ y. by_stmt accesses_step y n) g ∙ ap (λ f. f n) (if_here accesses_step cond body other)) ∙ h)
 
   pub assign_plain : (x : Stmt) (op : Option Op) (array : ArrayId) (subs : List Ix) (value : Val) → x ≡ s.Assign op array subs value → by_stmt accesses_step x n ≡ true
       → (all_plain n subs ≡ true) × (plain_value value n ≡ true)
@@ -114,8 +115,8 @@ calls_in body = list_any (λ b. b) (map (by_stmt stmt_call_step) body)
 pub for_calls : (x : Stmt) (iter : List ℕ) (low : Ix) (rel : Rel) (high : Ix) (body : List Stmt) → x ≡ s.For iter low rel high body → (has_call low || (has_call high || calls_in body)) ≡ by_stmt stmt_call_step x
 for_calls x iter low rel high body g = sym (ap (by_stmt stmt_call_step) g ∙ for_here stmt_call_step iter low rel high body)
 
-pub if_calls : (x : Stmt) (conds : List Compare) (body : List Stmt) → x ≡ s.If conds body → (list_any test_calls conds || calls_in body) ≡ by_stmt stmt_call_step x
-if_calls x conds body g = sym (ap (by_stmt stmt_call_step) g ∙ if_here stmt_call_step conds body)
+pub if_calls : (x : Stmt) (cond : Cond) (body other : List Stmt) → x ≡ s.If cond body other → (cond_calls cond || (calls_in body || calls_in other)) ≡ by_stmt stmt_call_step x
+if_calls x cond body other g = sym (ap (by_stmt stmt_call_step) g ∙ if_here stmt_call_step cond body other)
 
 pub assign_calls : (x : Stmt) (op : Option Op) (array : ArrayId) (subs : List Ix) (value : Val) → x ≡ s.Assign op array subs value → (some_call subs || by_val value_call_step value) ≡ by_stmt stmt_call_step x
 assign_calls x op array subs value g = sym (ap (by_stmt stmt_call_step) g)
@@ -132,10 +133,16 @@ pub for_rest : (x : Stmt) (iter : List ℕ) (low : Ix) (rel : Rel) (high : Ix) (
 for_rest x iter low rel high body slice a b t is same p q r u inside =
     after_none a (has_call high || calls_in body) t (has_call low) p q (after_none b (calls_in body) t (has_call high) r u (inside ∙ ap calls_in same)) ∙ for_calls x iter low rel high body is
 
-pub if_rest : (x : Stmt) (conds these : List Compare) (body slice : List Stmt) (a t : Bool) → x ≡ s.If conds body → these ≡ conds → slice ≡ body
-    → a ≡ false → a ≡ list_any test_calls these → t ≡ calls_in slice → t ≡ by_stmt stmt_call_step x
-if_rest x conds these body slice a t is those same p q inside =
-    after_none a (calls_in body) t (list_any test_calls conds) p (q ∙ ap (list_any test_calls) those) (inside ∙ ap calls_in same) ∙ if_calls x conds body is
+-- where the body calls one
+pub if_first : (x : Stmt) (cond : Cond) (body other slice : List Stmt) (b : Bool) → x ≡ s.If cond body other → slice ≡ body → b ≡ true → b ≡ calls_in slice → b ≡ by_stmt stmt_call_step x
+if_first x cond body other slice b is same r u =
+    let h : calls_in body ≡ true = sym (u ∙ ap calls_in same) ∙ r in
+    r ∙ sym (or_right (cond_calls cond) (calls_in body || calls_in other) (or_left (calls_in body) (calls_in other) h)) ∙ if_calls x cond body other is
+
+pub if_rest : (x : Stmt) (cond : Cond) (body other slice part : List Stmt) (a b t : Bool) → x ≡ s.If cond body other → slice ≡ body → part ≡ other
+    → a ≡ false → a ≡ cond_calls cond → b ≡ false → b ≡ calls_in slice → t ≡ calls_in part → t ≡ by_stmt stmt_call_step x
+if_rest x cond body other slice part a b t is same alike p q r u inside =
+    after_none a (calls_in body || calls_in other) t (cond_calls cond) p q (after_none b (calls_in other) t (calls_in body) r (u ∙ ap calls_in same) (inside ∙ ap calls_in alike)) ∙ if_calls x cond body other is
 
 pub block_rest : (x : Stmt) (locals these : List Local) (body slice : List Stmt) (a t : Bool) → x ≡ s.Block locals body → these ≡ locals → slice ≡ body
     → a ≡ false → a ≡ list_any (λ l. has_call l.value) these → t ≡ calls_in slice → t ≡ by_stmt stmt_call_step x

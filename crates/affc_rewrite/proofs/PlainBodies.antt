@@ -6,10 +6,11 @@ use Rattle.affc_ast.specs.declared.tree.Program.{Program}
 use Rattle.affc_ast.specs.declared.tree.Stmt.{Stmt}
 use Rattle.affc_ast.specs.declared.tree.Stmt.TheVariants as s
 use Rattle.affc_ast.specs.declared.tree.Stmt.TheBlock.{Row_of-Stmt, more_of-Stmt, end_of-Stmt}
+use Rattle.affc_ast.specs.Pieces.{comparisons_of}
 use Rattle.affc_ast.specs.Recursion.{by_stmt, by_each}
 use Rattle.affc_ast.proofs.Steps.{row_of, unrolled}
 use Rattle.affc_domain.specs.Accesses.{accesses_of}
-use Rattle.affc_domain.specs.Plain.{IsPlain, is_plain, all_plain, plain_value, plain_tests, is_upward, all_of, plain_step}
+use Rattle.affc_domain.specs.Plain.{IsPlain, is_plain, all_plain, plain_value, plain_cond, is_upward, all_of, plain_step}
 use Rattle.affc_domain.specs.Ranges.{number_ranges}
 use Rattle.affc_domain.proofs.Lists.{both_true, true_both}
 use Rattle.affc_rewrite.specs.Sizes.{all_under, accesses_step}
@@ -26,7 +27,9 @@ module _ (m : ℕ) (few : m ≤ 4) where
         let next : m + suc k ≡ (m + k) + 1 = omega arith in
         true_both (nat_le ((m + k) + 1) 16) (all_under (by_each accesses_step body) ((m + k) + 1)) (le-leb ((m + k) + 1) 16 (omega arith))
         (subst (λ n. all_under (by_each accesses_step body) n ≡ true) next (row_plain body (suc k) c (omega arith) b.1))
-    stmt_plain (s.If' conds shape body) k c l g = row_plain body k (c + length conds) l (both_true (plain_tests (m + k) conds) _ g).1
+    stmt_plain (s.If' cond shape body shape' other) k c l g =
+        let b = both_true (all_of (by_each (plain_step m) body) k (c + comparisons_of cond)) _ (both_true (plain_cond (m + k) cond) _ g).1 in
+        true_both (all_under (by_each accesses_step body) (m + k)) (all_under (by_each accesses_step other) (m + k)) (row_plain body k (c + comparisons_of cond) l b.0) (row_plain other k (c + comparisons_of cond) l b.1)
     stmt_plain (s.Assign op array subs value) k c l g =
         let h = both_true (nat_le c 32) _ g in
         (both_true (nat_le (length (accesses_of (record { op = op; array = array; subs = subs; value = value }))) 16) (all_plain (m + k) subs && plain_value value (m + k)) h.1).1

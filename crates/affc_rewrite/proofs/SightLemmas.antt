@@ -179,8 +179,13 @@ module _ (source : Program) (folds : List (ArrayId × Fold)) (are : AreFoldsIn s
         let less : n + 1 ≤ 16 = leb-true (n + 1) 16 q.0 in
         row_sees body (suc n) a (omega arith) (omega arith) (subst (λ m. all_under (by_each accesses_step body) m ≡ true) next q.1)
         (subst (IsIn a) (for_here assignments_step iter low rel high (each_under (by_each (refold_step at) body) (suc n))) i)
-    stmt_sees (s.If' conds shape body) n a l few h i =
-        row_sees body n a l few h (subst (IsIn a) (if_here assignments_step conds (each_under (by_each (refold_step at) body) n)) i)
+    stmt_sees (s.If' cond shape body shape' other) n a l few h i =
+        let q = both_true (all_under (by_each accesses_step body) n) (all_under (by_each accesses_step other) n) h in
+        elim (in_append (joined_under (by_each (refold_step at) body) n) (joined_under (by_each (refold_step at) other) n) a
+        (subst (IsIn a) (if_here assignments_step cond (each_under (by_each (refold_step at) body) n) (each_under (by_each (refold_step at) other) n)) i)) [
+          | inl j ↦ row_sees body n a l few q.0 j
+          | inr j ↦ row_sees other n a l few q.1 j
+        ]
     stmt_sees (s.Assign op array subs value) n a l few h (inl e) =
         let q = both_true (all_plain n subs) (plain_value value n) h in
         subst IsInSight (sym e) (record { names = n; few = few; subs = at_sees n array subs l q.0; value = value_at_sees n value l q.1 })

@@ -1,7 +1,8 @@
 -- What the definitions give at small programs. Each was found by hand from the rules.
 use Rattle.std.specs.Prelude.{◌≡◌, ℕ, ℤ, pos, negsuc, Bool, true, false, List, [], ◌∷◌, length, map, replicate, Some, None}
 use Rattle.affc_rows.specs.Forms.{Affine}
-use Rattle.affc_ast.specs.declared.tree.Compare.{Compare}
+use Rattle.affc_ast.specs.declared.tree.Cond.{Cond}
+use Rattle.affc_ast.specs.declared.tree.Cond.TheVariants as cond
 use Rattle.affc_ast.specs.declared.tree.Ix.{Ix}
 use Rattle.affc_ast.specs.declared.tree.Ix.TheVariants.{Name, Neg, Add, Sub, Mul, Min, Max, Floord, Ceild, Mod}
 use Rattle.affc_ast.specs.declared.tree.Local.{Local}
@@ -172,8 +173,12 @@ store subs value = Assign None (record { 0 = 1 }) subs value
 abbrev loop : (low high : Ix) → List Stmt → Stmt
 loop low high body = For [] low Less high body
 
-abbrev test : (left right : Ix) → Compare
-test left right = record { rel = Less; left = left; right = right }
+abbrev test : (left right : Ix) → Cond
+test left right = cond.Compare Less left right
+
+-- a test without calls
+abbrev quiet : Cond
+quiet = test (lit 1) (lit 1)
 
 abbrev local : Ix → Local
 local value = record { name = []; value = value }
@@ -194,10 +199,11 @@ CallsInStatements =
     (map (λ s. calls_in (s ∷ [])) (
     calling ∷ store (lit 1 ∷ []) (Cast call)
     ∷ loop call (lit 1) (calm ∷ []) ∷ loop (lit 1) call (calm ∷ []) ∷ loop (lit 1) (lit 1) (calm ∷ calling ∷ [])
-    ∷ If (test call (lit 1) ∷ []) (calm ∷ []) ∷ If (test (lit 1) (lit 1) ∷ test (lit 1) call ∷ []) (calm ∷ []) ∷ If (test (lit 1) (lit 1) ∷ []) (calm ∷ calling ∷ [])
+    ∷ If (test call (lit 1)) (calm ∷ []) [] ∷ If (test (lit 1) call) (calm ∷ []) [] ∷ If (cond.All (quiet ∷ test (lit 1) call ∷ [])) (calm ∷ []) []
+    ∷ If (cond.Any (quiet ∷ test (lit 1) call ∷ [])) (calm ∷ []) [] ∷ If (cond.Divides call (pos 2) true) (calm ∷ []) [] ∷ If quiet (calm ∷ calling ∷ []) [] ∷ If quiet [] (calm ∷ calling ∷ [])
     ∷ Block (local (lit 1) ∷ local call ∷ []) (calm ∷ []) ∷ Block (local (lit 1) ∷ []) (calm ∷ calling ∷ [])
-    ∷ []) ≡ replicate 10 true)
-    × (calls_in (calm ∷ loop (lit 1) (lit 1) (calm ∷ []) ∷ If (test (lit 1) (lit 1) ∷ []) (calm ∷ []) ∷ Block (local (lit 1) ∷ []) (calm ∷ []) ∷ []) ≡ false)
+    ∷ []) ≡ replicate 14 true)
+    × (calls_in (calm ∷ loop (lit 1) (lit 1) (calm ∷ []) ∷ If (cond.Any (quiet ∷ cond.All (quiet ∷ cond.Divides (lit 1) (pos 2) true ∷ []) ∷ [])) (calm ∷ []) (calm ∷ []) ∷ Block (local (lit 1) ∷ []) (calm ∷ []) ∷ []) ≡ false)
     × (calls_in (calm ∷ calling ∷ []) ≡ true)
 
 -- ---- Limits

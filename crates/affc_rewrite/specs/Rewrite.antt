@@ -6,7 +6,9 @@ use Rattle.std.specs.List.{All, list_any}
 use Rattle.std.specs.Ordering.{int_eq}
 use Rattle.affc_rows.specs.Forms.{Affine, composed_form}
 use Rattle.affc_ast.specs.declared.tree.ArrayId.{ArrayId}
-use Rattle.affc_ast.specs.declared.tree.Compare.{Compare}
+use Rattle.affc_ast.specs.declared.tree.Cond.{Cond}
+use Rattle.affc_ast.specs.declared.tree.Cond.TheOpen as cond
+use Rattle.affc_ast.specs.declared.tree.Cond.TheOpen.{Cond-F}
 use Rattle.affc_ast.specs.declared.tree.Decl.{Decl}
 use Rattle.affc_ast.specs.declared.tree.Ix.{Ix}
 use Rattle.affc_ast.specs.declared.tree.Ix.TheVariants as trees
@@ -15,7 +17,7 @@ use Rattle.affc_ast.specs.declared.tree.Program.{Program}
 use Rattle.affc_ast.specs.declared.tree.Stmt.TheOpen.{Stmt-F, For, If, Assign, Block}
 use Rattle.affc_ast.specs.declared.tree.Val.TheOpen.{Val-F, Load, Const, Cast, Not, Bin, Shift}
 use Rattle.affc_ast.specs.Meaning.{arrays_of}
-use Rattle.affc_ast.specs.Recursion.{by_ix, by_val, by_stmt}
+use Rattle.affc_ast.specs.Recursion.{by_ix, by_val, by_cond, by_stmt}
 use Rattle.affc_trace.specs.Target.{numbers_in}
 use Rattle.affc_domain.specs.Affine.{form_of}
 use Rattle.affc_domain.specs.Arrays.{declared_arrays}
@@ -141,12 +143,18 @@ value_call_step (Not a) = a
 value_call_step (Bin op a b) = a || b
 value_call_step (Shift left a by) = a
 
-abbrev pub test_calls : Compare → Bool
-test_calls c = has_call c.left || has_call c.right
+abbrev pub cond_call_step : Cond-F Bool → Bool
+cond_call_step (cond.Compare rel left right) = has_call left || has_call right
+cond_call_step (cond.All bs) = list_any (λ b. b) bs
+cond_call_step (cond.Any bs) = list_any (λ b. b) bs
+cond_call_step (cond.Divides value by so) = has_call value
+
+abbrev pub cond_calls : Cond → Bool
+cond_calls = by_cond cond_call_step
 
 abbrev pub stmt_call_step : Stmt-F Bool → Bool
 stmt_call_step (For iter low rel high body) = has_call low || (has_call high || list_any (λ b. b) body)
-stmt_call_step (If conds body) = list_any test_calls conds || list_any (λ b. b) body
+stmt_call_step (If cond body other) = cond_calls cond || (list_any (λ b. b) body || list_any (λ b. b) other)
 stmt_call_step (Assign op array subs value) = some_call subs || by_val value_call_step value
 stmt_call_step (Block locals body) = list_any (λ l. has_call l.value) locals || list_any (λ b. b) body
 

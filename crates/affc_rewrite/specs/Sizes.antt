@@ -71,6 +71,6 @@ all_under (f ∷ fs) names = f names && all_under fs names
 -- all accesses are plain, and at most 16 names are in sight
 abbrev pub accesses_step : Stmt-F (ℕ → Bool) → (names : ℕ) → Bool
 accesses_step (For iter low rel high body) names = nat_le (names + 1) 16 && all_under body (names + 1)
-accesses_step (If conds body) names = all_under body names
+accesses_step (If cond body other) names = all_under body names && all_under other names
 accesses_step (Assign op array subs value) names = all_plain names subs && plain_value value names
 accesses_step (Block locals body) names = nat_le (names + length locals) 16 && all_under body (names + length locals)

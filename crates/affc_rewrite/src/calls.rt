@@ -4,7 +4,7 @@ ghost use Rattle.std.specs.List.{list_any};
 ghost use Rattle.affc_ast.specs.Recursion.{by_val, by_stmt};
 ghost use Rattle.affc_rewrite.specs.Rewrite as specs;
 
-use affc_ast::tree::{Compare, Ix, Local, Stmt, Val};
+use affc_ast::tree::{Cond, Ix, Local, Stmt, Val};
 
 #[tactic(auto, using(affc_ast::proofs::Outs::ix_outs))]
 fn has_call(e: &Ix) -> bool
@@ -52,13 +52,37 @@ fn value_calls(e: &Val) -> bool
     }
 }
 
-fn test_calls(conds: &[Compare]) -> bool
-    ensures { result ≡ list_any specs.test_calls conds.now }
+#[cycle(conds)]
+#[tactic(auto, using(affc_ast::proofs::Outs::cond_outs))]
+fn cond_calls(cond: &Cond) -> bool
+    ensures { result ≡ specs.cond_calls cond.now }
 {
-    match conds {
-        [] => false,
-        [c, rest @ ..] => has_call(&c.left) || has_call(&c.right) || test_calls(rest),
+    match cond {
+        Cond::Compare {
+            rel: _,
+            left,
+            right,
+        } => has_call(left) || has_call(right),
+        Cond::All(entries) => some_cond_calls(entries.as_slice()),
+        Cond::Any(entries) => some_cond_calls(entries.as_slice()),
+        Cond::Divides {
+            value,
+            by: _,
+            yes: _,
+        } => has_call(value),
     }
+}
+
+#[cycle(conds)]
+fn some_cond_calls(conds: &[Cond]) -> bool
+    ensures { result ≡ list_any (λ b. b) (map specs.cond_calls conds.now) }
+{
+    for cond in conds {
+        if cond_calls(cond) {
+            return true;
+        }
+    }
+    false
 }
 
 fn local_calls(locals: &[Local]) -> bool
@@ -83,7 +107,9 @@ fn stmt_calls(s: &Stmt) -> bool
             high,
             body,
         } => has_call(low) || (has_call(high) || calls(body.as_slice())),
-        Stmt::If { conds, body } => test_calls(conds.as_slice()) || calls(body.as_slice()),
+        Stmt::If { cond, body, other } => {
+            cond_calls(cond) || (calls(body.as_slice()) || calls(other.as_slice()))
+        }
         Stmt::Assign {
             op: _,
             array: _,

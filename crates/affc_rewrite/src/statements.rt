@@ -10,7 +10,7 @@ ghost use Rattle.affc_rewrite.specs.Sizes.{IsWalk, at, all_under, accesses_step}
 use crate::subscripts::{Folding, subscripts};
 use affc_ast::copies::all as copies;
 use affc_ast::text::Text;
-use affc_ast::tree::{ArrayId, Compare, Ix, Local, Op, Rel, Stmt, Val};
+use affc_ast::tree::{ArrayId, Cond, Ix, Local, Op, Rel, Stmt, Val};
 use affc_ast::{Boxed, Items};
 use std::alloc::{AllocError, Global};
 
@@ -95,12 +95,17 @@ fn for_loop(
     })
 }
 
-/// An `if` with this body.
-fn tested(alloc: Global, conds: &[Compare], body: Items<Stmt>) -> Result<Stmt, AllocError>
-    ensures { IfOk result (λ x. x ≡ made.If conds.now body) }
+/// An `if` with these branches.
+fn tested(
+    alloc: Global,
+    cond: &Cond,
+    body: Items<Stmt>,
+    other: Items<Stmt>,
+) -> Result<Stmt, AllocError>
+    ensures { IfOk result (λ x. x ≡ made.If cond.now body other) }
 {
-    let conds = copies(alloc, conds)?;
-    Ok(Stmt::If { conds, body })
+    let cond = cond.to_owned(alloc)?;
+    Ok(Stmt::If { cond, body, other })
 }
 
 /// An assignment with folded subscripts.
@@ -163,9 +168,10 @@ fn statement(alloc: Global, folding: &Folding<'_>, names: u32, s: &Stmt) -> Resu
             let body = statements(alloc, folding, names + 1, body.as_slice())?;
             for_loop(alloc, iter, low, *rel, high, body)
         }
-        Stmt::If { conds, body } => {
+        Stmt::If { cond, body, other } => {
             let body = statements(alloc, folding, names, body.as_slice())?;
-            tested(alloc, conds.as_slice(), body)
+            let other = statements(alloc, folding, names, other.as_slice())?;
+            tested(alloc, cond, body, other)
         }
         Stmt::Assign {
             op,

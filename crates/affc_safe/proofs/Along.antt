@@ -1,10 +1,11 @@
 -- What a run of a source reads on the way to a statement, and at it.
 use Rattle.std.specs.Prelude.{◌≡◌, ℕ, ℤ, true, int_le, List, [], ◌∷◌, ◌++◌, Ok}
-use Rattle.affc_ast.specs.declared.tree.Compare.{Compare}
+use Rattle.affc_ast.specs.declared.tree.Cond.{Cond}
 use Rattle.affc_ast.specs.declared.tree.Instance.{Instance}
 use Rattle.affc_ast.specs.declared.tree.Ix.{Ix}
-use Rattle.affc_ast.specs.Fits.{whole, all_hold}
-use Rattle.affc_ast.specs.Index.{index_value, compares}
+use Rattle.affc_ast.specs.Conditions.{condition}
+use Rattle.affc_ast.specs.Fits.{whole, is_true_at}
+use Rattle.affc_ast.specs.Index.{index_value}
 use Rattle.affc_ast.specs.Meaning.{assigned}
 use Rattle.affc_ast.specs.Store.{Element, Store}
 use Rattle.affc_ast.specs.Trace.{Assignment}
@@ -15,10 +16,9 @@ use Rattle.affc_domain.specs.Rounds.{Round, Loop, Test, goes_on, turns}
 abbrev pub IsRead : Ix → List ℤ → Type 0
 IsRead e names = (node : ℕ) × (index_value e node names ≡ Ok (whole e names))
 
--- conditions are read up to the first that is false
-abbrev pub AreRead : List Compare → List ℤ → Type 0
-AreRead [] names = Unit {0}
-AreRead (c ∷ cs) names = IsRead c.left names × IsRead c.right names × (compares c.rel (whole c.left names) (whole c.right names) ≡ true → AreRead cs names)
+-- the condition is read as it is true or false, at some node
+abbrev pub IsReadCond : Cond → List ℤ → Type 0
+IsReadCond cond names = (node : ℕ) × (condition cond node names ≡ Ok (is_true_at cond names))
 
 -- each bound and condition is read that is come to
 abbrev pub ReadAlong : List Round → List ℤ → List ℤ → Type 0
@@ -27,7 +27,7 @@ ReadAlong (Loop iter low rel high ∷ rs) names [] = Unit {0}
 ReadAlong (Loop iter low rel high ∷ rs) names (x ∷ xs) =
     IsRead low names × IsRead high names
     × (int_le (whole low names) x ≡ true → goes_on rel x (whole high names) ≡ true → ReadAlong rs (names ++ x ∷ []) xs)
-ReadAlong (Test conds ∷ rs) names xs = AreRead conds names × (all_hold conds names ≡ true → ReadAlong rs names xs)
+ReadAlong (Test cond ∷ rs) names xs = IsReadCond cond names × (is_true_at cond names ≡ true → ReadAlong rs names xs)
 
 -- the assignment is done somewhere
 pub record IsDone (a : Assignment) (names : List ℤ) (extents : List (List ℤ)) : Type 0 where

@@ -5,6 +5,7 @@ pub mod PlainNear
 pub mod ValuesThere
 pub mod SafeLaws
 pub mod Along
+pub mod Denied
 pub mod SourceRuns
 pub mod EndedSafe
 pub mod FitsThere

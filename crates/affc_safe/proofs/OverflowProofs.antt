@@ -3,6 +3,7 @@ use Rattle.std.proofs.Common.{◌≡◌, ◌∙◌, ap, ◌++◌, Some, refl, sy
 use denote.Hole.Carrier.{hidden}
 use Rattle.affc_ast.specs.declared.tree.Ix.TheBlock.{shape-the_row-Ix-0, hidden-the_row-Ix-0}
 use Rattle.affc_ast.specs.declared.tree.Val.TheBlock.{shape-the_row-Val-0, hidden-the_row-Val-0}
+use Rattle.affc_ast.specs.declared.tree.Cond.TheBlock.{shape-the_row-Cond-0, hidden-the_row-Cond-0}
 use Rattle.affc_ast.specs.declared.tree.Stmt.TheBlock.{shape-the_row-Stmt-0, hidden-the_row-Stmt-0}
 use Rattle.std.specs.Prelude.{slice_get}
 use Rattle.std.proofs.lemmas.Option.{same_Some}
@@ -17,7 +18,7 @@ use Rattle.affc_safe.specs.Overflow.{AreReadable, ReadsAssignment}
 use Rattle.affc_trace.specs.Examples.{blur, S0}
 use Rattle.affc_trace.specs.Laws.{IsInContext}
 use Rattle.affc_safe.specs.Examples.{at}
-use Rattle.affc_safe.specs.OverflowExamples.{BlurIsPlain, BlurEnds, IteratorsKeepNear, NeverEntered, BoundsArePlain, SixteenNames, ParametersKeepNear, WideAssignments, WideExtents, everywhere, NothingOverflows}
+use Rattle.affc_safe.specs.OverflowExamples.{BlurIsPlain, BlurEnds, IteratorsKeepNear, NeverEntered, BoundsArePlain, ConditionsArePlain, SixteenNames, ParametersKeepNear, WideAssignments, WideExtents, everywhere, NothingOverflows}
 use Rattle.affc_safe.proofs.ExampleProofs.{blur_is_safe}
 use Rattle.affc_safe.proofs.FitsThere.{some_store_fits}
 use Rattle.affc_safe.proofs.SafeLaws.{safe_runs}
@@ -31,7 +32,7 @@ no_value : {A : Type 0} (cause : Cause) (x : A) → ◌≡◌ {A = Result A Caus
 no_value cause x e = subst IsOk (sym e) tt
 
 pub blur_is_plain : BlurIsPlain
-unfolding shape-the_row-Ix-0 hidden-the_row-Ix-0 shape-the_row-Val-0 hidden-the_row-Val-0 shape-the_row-Stmt-0 hidden-the_row-Stmt-0 hidden
+unfolding shape-the_row-Ix-0 hidden-the_row-Ix-0 shape-the_row-Val-0 hidden-the_row-Val-0 shape-the_row-Stmt-0 hidden-the_row-Stmt-0 shape-the_row-Cond-0 hidden-the_row-Cond-0 hidden
 blur_is_plain = (
   record {
     few_numbers = lit≤ tt;
@@ -42,6 +43,7 @@ blur_is_plain = (
     temps = refl;
     body = refl;
     full = refl;
+    tests = refl;
     few_assignments = lit≤ tt;
   },
   refl,
@@ -49,34 +51,38 @@ blur_is_plain = (
 )
 
 inside : IsInContext blur (at 2)
-unfolding shape-the_row-Ix-0 hidden-the_row-Ix-0 shape-the_row-Val-0 hidden-the_row-Val-0 shape-the_row-Stmt-0 hidden-the_row-Stmt-0 hidden
+unfolding shape-the_row-Ix-0 hidden-the_row-Ix-0 shape-the_row-Val-0 hidden-the_row-Val-0 shape-the_row-Stmt-0 hidden-the_row-Stmt-0 shape-the_row-Cond-0 hidden-the_row-Cond-0 hidden
 inside = record { ranges = refl; context = refl }
 
 pub blur_ends : BlurEnds
 blur_ends = (some_store_fits blur (at 2) inside, λ store fits. safe_runs blur (at 2) store blur_is_plain.0 blur_is_plain.1 fits blur_is_safe.0)
 
 pub iterators_keep_near : IteratorsKeepNear
-unfolding shape-the_row-Ix-0 hidden-the_row-Ix-0 shape-the_row-Val-0 hidden-the_row-Val-0 shape-the_row-Stmt-0 hidden-the_row-Stmt-0 hidden
-iterators_keep_near = (refl, refl, refl, refl, refl, refl, refl, refl)
+unfolding shape-the_row-Ix-0 hidden-the_row-Ix-0 shape-the_row-Val-0 hidden-the_row-Val-0 shape-the_row-Stmt-0 hidden-the_row-Stmt-0 shape-the_row-Cond-0 hidden-the_row-Cond-0 hidden
+iterators_keep_near = (refl, refl, refl, refl, refl, refl, refl, refl, refl, refl)
 
 pub never_entered : NeverEntered
-unfolding shape-the_row-Ix-0 hidden-the_row-Ix-0 shape-the_row-Val-0 hidden-the_row-Val-0 shape-the_row-Stmt-0 hidden-the_row-Stmt-0 hidden
+unfolding shape-the_row-Ix-0 hidden-the_row-Ix-0 shape-the_row-Val-0 hidden-the_row-Val-0 shape-the_row-Stmt-0 hidden-the_row-Stmt-0 shape-the_row-Cond-0 hidden-the_row-Cond-0 hidden
 never_entered = (refl, refl)
 
 pub bounds_are_plain : BoundsArePlain
-unfolding shape-the_row-Ix-0 hidden-the_row-Ix-0 shape-the_row-Val-0 hidden-the_row-Val-0 shape-the_row-Stmt-0 hidden-the_row-Stmt-0 hidden
+unfolding shape-the_row-Ix-0 hidden-the_row-Ix-0 shape-the_row-Val-0 hidden-the_row-Val-0 shape-the_row-Stmt-0 hidden-the_row-Stmt-0 shape-the_row-Cond-0 hidden-the_row-Cond-0 hidden
 bounds_are_plain = (refl, refl, refl, refl)
 
+pub conditions_are_plain : ConditionsArePlain
+unfolding shape-the_row-Ix-0 hidden-the_row-Ix-0 shape-the_row-Val-0 hidden-the_row-Val-0 shape-the_row-Stmt-0 hidden-the_row-Stmt-0 shape-the_row-Cond-0 hidden-the_row-Cond-0 hidden
+conditions_are_plain = (refl, refl, refl, refl)
+
 pub sixteen_names : SixteenNames
-unfolding shape-the_row-Ix-0 hidden-the_row-Ix-0 shape-the_row-Val-0 hidden-the_row-Val-0 shape-the_row-Stmt-0 hidden-the_row-Stmt-0 hidden
+unfolding shape-the_row-Ix-0 hidden-the_row-Ix-0 shape-the_row-Val-0 hidden-the_row-Val-0 shape-the_row-Stmt-0 hidden-the_row-Stmt-0 shape-the_row-Cond-0 hidden-the_row-Cond-0 hidden
 sixteen_names = (refl, refl, refl, refl)
 
 pub parameters_keep_near : ParametersKeepNear
-unfolding shape-the_row-Ix-0 hidden-the_row-Ix-0 shape-the_row-Val-0 hidden-the_row-Val-0 shape-the_row-Stmt-0 hidden-the_row-Stmt-0 hidden
+unfolding shape-the_row-Ix-0 hidden-the_row-Ix-0 shape-the_row-Val-0 hidden-the_row-Val-0 shape-the_row-Stmt-0 hidden-the_row-Stmt-0 shape-the_row-Cond-0 hidden-the_row-Cond-0 hidden
 parameters_keep_near = (refl, refl, refl)
 
 pub wide_assignments : WideAssignments
-unfolding shape-the_row-Ix-0 hidden-the_row-Ix-0 shape-the_row-Val-0 hidden-the_row-Val-0 shape-the_row-Stmt-0 hidden-the_row-Stmt-0 hidden
+unfolding shape-the_row-Ix-0 hidden-the_row-Ix-0 shape-the_row-Val-0 hidden-the_row-Val-0 shape-the_row-Stmt-0 hidden-the_row-Stmt-0 shape-the_row-Cond-0 hidden-the_row-Cond-0 hidden
 wide_assignments = (
   λ h. no_value _ _ ((h.assignments (S0 0) _ (inl refl) refl).subs.0 0),
   λ h. no_value _ _ ((h.assignments (S0 0) _ (inl refl) refl).value.1.0 0),
@@ -86,7 +92,7 @@ wide_assignments = (
 )
 
 pub wide_extents : WideExtents
-unfolding shape-the_row-Ix-0 hidden-the_row-Ix-0 shape-the_row-Val-0 hidden-the_row-Val-0 shape-the_row-Stmt-0 hidden-the_row-Stmt-0 hidden
+unfolding shape-the_row-Ix-0 hidden-the_row-Ix-0 shape-the_row-Val-0 hidden-the_row-Val-0 shape-the_row-Stmt-0 hidden-the_row-Stmt-0 shape-the_row-Cond-0 hidden-the_row-Cond-0 hidden
 wide_extents = λ h. no_value _ _ ((h.extents _ (inr (inr (inl refl)))).1.0 0)
 
 -- one after the other
@@ -110,7 +116,7 @@ one_instance program p c d whole here reads b a i e = by (subst (IsIn b) whole i
     by (inr none) = absurd none
 
 pub nothing_overflows : NothingOverflows
-unfolding shape-the_row-Ix-0 hidden-the_row-Ix-0 shape-the_row-Val-0 hidden-the_row-Val-0 shape-the_row-Stmt-0 hidden-the_row-Stmt-0 hidden
+unfolding shape-the_row-Ix-0 hidden-the_row-Ix-0 shape-the_row-Val-0 hidden-the_row-Val-0 shape-the_row-Stmt-0 hidden-the_row-Stmt-0 shape-the_row-Cond-0 hidden-the_row-Cond-0 hidden
 nothing_overflows = record {
   near = refl;
   extents = each_readable (declared_arrays everywhere) (at 1) (((λ node. refl), tt), (((λ node. refl), tt), (((λ node. refl), ((λ node. refl), tt)), tt)));

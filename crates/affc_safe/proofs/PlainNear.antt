@@ -3,7 +3,7 @@ use Rattle.std.proofs.Common.{◌≡◌, ℕ, zero, suc, ◌+◌, ◌<◌, ◌�
 use Rattle.std.specs.Prelude.{◌||◌, nat_lt, nat_le, nat_abs, if◌then◌else◌, slice_get}
 use Rattle.std.proofs.lemmas.Bool.{false≢true, lt-ltb, ltb-true, le-leb, leb-true}
 use Rattle.std.proofs.lemmas.Option.{none-some, same_Some}
-use Rattle.affc_ast.specs.declared.tree.Compare.{Compare}
+use Rattle.affc_ast.specs.declared.tree.Cond.{Cond}
 use Rattle.affc_ast.specs.declared.tree.Decl.{Decl}
 use Rattle.affc_ast.specs.declared.tree.Instance.{Instance}
 use Rattle.affc_ast.specs.declared.tree.Ix.{Ix}
@@ -12,8 +12,10 @@ use Rattle.affc_ast.specs.declared.tree.Rel.{Rel}
 use Rattle.affc_ast.specs.declared.tree.Stmt.{Stmt}
 use Rattle.affc_ast.specs.declared.tree.Stmt.TheVariants as s
 use Rattle.affc_ast.specs.declared.tree.Stmt.TheBlock.{Row_of-Stmt, more_of-Stmt, end_of-Stmt}
+use Rattle.affc_ast.specs.Denials.{denied}
 use Rattle.affc_ast.specs.Fits.{within_ranges}
 use Rattle.affc_ast.specs.Meaning.{arrays_of}
+use Rattle.affc_ast.specs.Pieces.{comparisons_of}
 use Rattle.affc_ast.specs.Recursion.{by_stmt, by_each}
 use Rattle.affc_ast.specs.Trace.{Assignment, assignments, trace}
 use Rattle.affc_ast.proofs.Steps.{row_of, unrolled, flat_unrolled}
@@ -23,7 +25,7 @@ use Rattle.affc_trace.proofs.Runs.{length_append}
 use Rattle.affc_trace.specs.Effects.{all_true, has_no_locals, plain_step as bare_step}
 use Rattle.affc_trace.proofs.Members.{both_hold, hold_both}
 use Rattle.affc_domain.specs.Accesses.{accesses_of}
-use Rattle.affc_domain.specs.Plain.{is_plain, all_plain, plain_tests, plain_value, plain_decls, plain_range, plain_ranges, plain_step, all_of, is_upward, some_hold, all_full, full_step, IsPlain}
+use Rattle.affc_domain.specs.Plain.{is_plain, all_plain, plain_cond, plain_value, plain_decls, plain_range, plain_ranges, plain_step, all_of, is_upward, some_hold, all_full, full_step, IsPlain}
 use Rattle.affc_domain.specs.Ranges.{Ranges, Within, Never, Wide, outermost, is_near, range_of, entered, ranges_of, number_ranges, AreWithin, first_wide_of, first_wide}
 use Rattle.affc_domain.specs.Rounds.{Round, Loop, Test, rounds_step, rounds, loops_in}
 use Rattle.affc_domain.proofs.CountLemmas.{iterators_of_loops}
@@ -46,7 +48,11 @@ module _ (m : ℕ) where
         let d = both_hold (is_plain (m + k) low) _ b.1 in
         let e = both_hold (is_plain (m + k) high) _ d.1 in
         row_bare body (suc k) c e.1
-    stmt_bare (s.If' conds shape body) k c h = row_bare body k (c + length conds) (both_hold (plain_tests (m + k) conds) _ h).1
+    stmt_bare (s.If' cond shape body shape' other) k c h =
+        let more : ℕ = c + comparisons_of cond in
+        let a = both_hold (plain_cond (m + k) cond) _ h in
+        let b = both_hold (all_of (by_each (plain_step m) body) k more) (all_of (by_each (plain_step m) other) k more) a.1 in
+        hold_both (all_true (by_each bare_step body)) (all_true (by_each bare_step other)) (row_bare body k more b.0) (row_bare other k more b.1)
     stmt_bare (s.Assign op array subs value) k c h = refl
     stmt_bare (s.Block' [] shape body) k c h = row_bare body k c h
     stmt_bare (s.Block' (l ∷ ls) shape body) k c h = absurd (false≢true h)
@@ -96,11 +102,11 @@ near_parts ranges (x ∷ xs) ys h =
     let r = near_parts ranges xs ys a.1 in
     (hold_both (not (is_wide (ranges_of ranges x))) (none_wide_in ranges xs) a.0 r.0, r.1)
 
-near_tests : (ranges : List (ℤ × ℤ)) (conds : List Compare) (xs : List (List Round)) → none_wide_in ranges (map (λ rs. Test conds ∷ rs) xs) ≡ true → none_wide_in ranges xs ≡ true
-near_tests ranges conds [] h = refl
-near_tests ranges conds (x ∷ xs) h =
-    let a = both_hold (not (is_wide (ranges_of ranges x))) (none_wide_in ranges (map (λ rs. Test conds ∷ rs) xs)) h in
-    hold_both (not (is_wide (ranges_of ranges x))) (none_wide_in ranges xs) a.0 (near_tests ranges conds xs a.1)
+near_test : (ranges : List (ℤ × ℤ)) (cond : Cond) (xs : List (List Round)) → none_wide_in ranges (map (λ rs. Test cond ∷ rs) xs) ≡ true → none_wide_in ranges xs ≡ true
+near_test ranges cond [] h = refl
+near_test ranges cond (x ∷ xs) h =
+    let a = both_hold (not (is_wide (ranges_of ranges x))) (none_wide_in ranges (map (λ rs. Test cond ∷ rs) xs)) h in
+    hold_both (not (is_wide (ranges_of ranges x))) (none_wide_in ranges xs) a.0 (near_test ranges cond xs a.1)
 
 -- a loop that isn't wide
 not_wide : (r : ℤ × ℤ) (inside : Ranges) → int_lt r.1 r.0 ≡ false → not (is_wide (entered r inside)) ≡ true → ((is_near r.0 && is_near r.1) ≡ true) × (not (is_wide inside) ≡ true)
@@ -153,7 +159,10 @@ joined_rounds body = flat_map (λ a. a) (by_each rounds_step body)
 mutual
   stmt_some : (x : Stmt) → (by_stmt full_step x).0 ≡ true → is_some_round (by_stmt rounds_step x) ≡ true
   stmt_some (s.For' iter low rel high shape body) h = some_map (Loop iter low rel high) (joined_rounds body) (row_some body h)
-  stmt_some (s.If' conds shape body) h = some_map (Test conds) (joined_rounds body) (row_some body h)
+  stmt_some (s.If' cond shape body shape' other) h =
+      some_append (map (λ rs. Test cond ∷ rs) (joined_rounds body)) (map (λ rs. Test (denied cond) ∷ rs) (joined_rounds other))
+      (either (some_hold (by_each full_step body)) (some_hold (by_each full_step other)) (is_some_round (map (λ rs. Test cond ∷ rs) (joined_rounds body))) (is_some_round (map (λ rs. Test (denied cond) ∷ rs) (joined_rounds other)))
+      (λ g. some_map (Test cond) (joined_rounds body) (row_some body g)) (λ g. some_map (Test (denied cond)) (joined_rounds other) (row_some other g)) h)
   stmt_some (s.Assign op array subs value) h = refl
   stmt_some (s.Block' locals shape body) h = row_some body h
 
@@ -197,11 +206,17 @@ module _ (m : ℕ) (few : m ≤ 4) where
           near_loop ranges iter low rel high (joined_rounds body) (row_some body h.0) i w,
           row_near body (suc k) c (ranges ++ r ∷ []) longer b.1 h.1 (near_loops ranges iter low rel high (joined_rounds body) i w),
         )))))
-    stmt_near (s.If' conds shape body) k c ranges e g f w =
-        let a = both_hold (plain_tests (m + k) conds) (all_of (by_each (plain_step m) body) k (c + length conds)) g in
-        let h = both_hold (some_hold (by_each full_step body)) (all_full (by_each full_step body)) f in
-        hold_both (plain_tests (length ranges) conds) (near_in body ranges) (subst (λ n. plain_tests n conds ≡ true) e a.0)
-        (row_near body k (c + length conds) ranges e a.1 h.1 (near_tests ranges conds (joined_rounds body) w))
+    stmt_near (s.If' cond shape body shape' other) k c ranges e g f w =
+        let more : ℕ = c + comparisons_of cond in
+        let a = both_hold (plain_cond (m + k) cond) _ g in
+        let b = both_hold (all_of (by_each (plain_step m) body) k more) (all_of (by_each (plain_step m) other) k more) a.1 in
+        let h = both_hold (some_hold (by_each full_step body) || some_hold (by_each full_step other)) _ f in
+        let i = both_hold (all_full (by_each full_step body)) (all_full (by_each full_step other)) h.1 in
+        let v = near_parts ranges (map (λ rs. Test cond ∷ rs) (joined_rounds body)) (map (λ rs. Test (denied cond) ∷ rs) (joined_rounds other)) w in
+        hold_both (plain_cond (length ranges) cond) _ (subst (λ n. plain_cond n cond ≡ true) e a.0)
+        (hold_both (near_in body ranges) (near_in other ranges)
+        (row_near body k more ranges e b.0 i.0 (near_test ranges cond (joined_rounds body) v.0))
+        (row_near other k more ranges e b.1 i.1 (near_test ranges (denied cond) (joined_rounds other) v.1)))
     stmt_near (s.Assign op array subs value) k c ranges e g f w = refl
     stmt_near (s.Block' [] shape body) k c ranges e g f w = row_near body k c ranges e g f w
     stmt_near (s.Block' (l ∷ ls) shape body) k c ranges e g f w = absurd (false≢true g)
@@ -252,7 +267,7 @@ not_wide_at ranges (x ∷ rss) (suc n) rs h e = not_wide_at ranges rss n rs (bot
 iterators_near : (rs : List Round) (ranges : List (ℤ × ℤ)) (xs : List ℤ) → not (is_wide (ranges_of ranges rs)) ≡ true → AreWithin (ranges_of ranges rs) xs → AreNear xs
 iterators_near [] ranges [] h w = tt
 iterators_near [] ranges (x ∷ xs) h w = absurd w
-iterators_near (Test conds ∷ rs) ranges xs h w = iterators_near rs ranges xs h w
+iterators_near (Test cond ∷ rs) ranges xs h w = iterators_near rs ranges xs h w
 iterators_near (Loop iter low rel high ∷ rs) ranges xs h w =
     let r = range_of ranges low rel high in
     by (int_lt r.1 r.0) (is_near r.0 && is_near r.1) refl (ranges_of (ranges ++ r ∷ []) rs) xs (iterators_near rs (ranges ++ r ∷ [])) h w

@@ -1,13 +1,15 @@
 -- Small affine expressions are read in `int64_t` where the names keep near.
-use Rattle.std.proofs.Common.{◌≡◌, ℕ, zero, suc, ◌+◌, ◌*◌, ◌^◌, ◌<◌, ◌≤◌, ℤ, pos, negsuc, ◌+ℤ◌, ◌-ℤ◌, ◌*ℤ◌, ◌≤ℤ◌, neg_ℤ, true, ◌&&◌, IsTrue, List, [], ◌∷◌, ◌++◌, length, get_or, Result, Ok, refl, sym, ap, subst, ◌∙◌, arith}
-use Rattle.std.specs.Prelude.{unsigned_abs, nat_le, nat_abs}
+use Rattle.std.proofs.Common.{◌≡◌, ℕ, zero, suc, ◌+◌, ◌*◌, ◌^◌, ◌<◌, ◌≤◌, ℤ, pos, negsuc, ◌+ℤ◌, ◌-ℤ◌, ◌*ℤ◌, ◌≤ℤ◌, neg_ℤ, Bool, true, false, ◌&&◌, if◌then◌else◌, IsTrue, List, [], ◌∷◌, ◌++◌, length, get_or, Result, Ok, refl, sym, ap, subst, ◌∙◌, arith}
+use Rattle.std.specs.Prelude.{unsigned_abs, nat_le, nat_abs, ◌||◌}
 use Rattle.std.proofs.lemmas.Bool.{leb-true, lt-ltb}
 use Rattle.std.proofs.lemmas.Int.{ints, unsigned_abs-mul}
 use Rattle.std.proofs.Math.Nat.{mul-le-mul_left, mul-le-mul_right}
 use Rattle.affc_rows.specs.Forms.{Affine, dot, value}
 use Rattle.affc_rows.proofs.IntLemmas.{abs-add}
 use Rattle.affc_system.specs.Boxes.{InBox}
-use Rattle.affc_ast.specs.declared.tree.Compare.{Compare}
+use Rattle.affc_ast.specs.declared.tree.Cond.{Cond}
+use Rattle.affc_ast.specs.declared.tree.Cond.TheVariants as d
+use Rattle.affc_ast.specs.declared.tree.Cond.TheBlock.{Row_of-Cond, more_of-Cond, end_of-Cond}
 use Rattle.affc_ast.specs.declared.tree.Ix.{Ix}
 use Rattle.affc_ast.specs.declared.tree.Ix.TheVariants as c
 use Rattle.affc_ast.specs.declared.tree.Ix.TheBlock.{more_of-Ix, end_of-Ix}
@@ -15,18 +17,20 @@ use Rattle.affc_ast.specs.declared.tree.Val.{Val}
 use Rattle.affc_ast.specs.declared.tree.Val.TheVariants as v
 use Rattle.affc_ast.specs.declared.tree.Val.TheBlock.{more_of-Val, end_of-Val}
 use Rattle.affc_ast.specs.Cause.{Cause, ◌>>=◌}
-use Rattle.affc_ast.specs.Fits.{whole}
+use Rattle.affc_ast.specs.Conditions.{all_read, some_read, reading_step, nodes_of_cond, condition}
+use Rattle.affc_ast.specs.Fits.{whole, all_true, some_true, truth_step, is_true_at}
 use Rattle.affc_ast.specs.Index.{is_int64, in_int64, index_value, nodes_of_ix}
+use Rattle.affc_ast.specs.Recursion.{by_entries}
 use Rattle.affc_trace.proofs.LastStores.{append_nil}
 use Rattle.affc_trace.proofs.Members.{both_hold}
 use Rattle.affc_trace.proofs.Runs.{length_append}
 use Rattle.affc_domain.specs.Affine.{linear, sees, is_small, are_small, form_of}
 use Rattle.affc_domain.specs.Ranges.{is_near}
 use Rattle.affc_domain.proofs.FormLemmas.{same_affine, value_of_form, three}
-use Rattle.affc_domain.specs.Plain.{is_plain, all_plain, plain_tests, plain_value}
+use Rattle.affc_domain.specs.Plain.{is_plain, all_plain, plain_cond_step, plain_cond, plain_value}
 use Rattle.affc_domain.proofs.Lists.{neg_size}
 use Rattle.affc_safe.specs.Overflow.{near_ranges, IsReadable, AreReadable, ReadsValue}
-use Rattle.affc_safe.proofs.Wants.{ReadableAll, int64_ok, bind_to}
+use Rattle.affc_safe.proofs.Wants.{IsReadableCond, int64_ok, bind_to, chosen}
 
 -- ---- near numbers
 
@@ -176,12 +180,38 @@ all_plain_read n names (e ∷ es) l near h =
     let t = both_hold (is_plain n e) (all_plain n es) h in
     (plain_reads n names e l near t.0, all_plain_read n names es l near t.1)
 
-pub plain_tests_read : (n : ℕ) (names : List ℤ) (cs : List Compare) → n ≡ length names → Near names → IsTrue (plain_tests n cs) → ReadableAll cs names
-plain_tests_read n names [] l near h = tt
-plain_tests_read n names (d ∷ cs) l near h =
-    let t = both_hold (is_plain n d.left) _ h in
-    let u = both_hold (is_plain n d.right) (plain_tests n cs) t.1 in
-    (plain_reads n names d.left l near t.0, plain_reads n names d.right l near u.0, λ e. plain_tests_read n names cs l near u.1)
+chosen_some : (b : Bool) (q : Result Bool Cause) (d : Bool) → q ≡ Ok d → (if b then Ok true else q) ≡ Ok (b || d)
+chosen_some true q d h = refl
+chosen_some false q d h = h
+
+module _ (n : ℕ) (names : List ℤ) (l : n ≡ length names) (near : Near names) where
+  mutual
+    cond_reads : (x : Cond) → IsTrue (plain_cond n x) → IsReadableCond x names
+    cond_reads (d.Compare rel left right) h node =
+        let t = both_hold (is_plain n left) (is_plain n right) h in
+        bind_to (index_value left (node + 1) names) (whole left names) _ _ (plain_reads n names left l near t.0 (node + 1))
+        (bind_to (index_value right (node + 1 + nodes_of_ix left) names) (whole right names) _ _ (plain_reads n names right l near t.1 (node + 1 + nodes_of_ix left)) refl)
+    cond_reads (d.All' shape entries) h node = all_reads entries h (node + 1)
+    cond_reads (d.Any' shape entries) h node = some_reads entries h (node + 1)
+    cond_reads (d.Divides value by so) h node =
+        bind_to (index_value value (node + 1) names) (whole value names) _ _ (plain_reads n names value l near (both_hold (is_plain n value) _ h).0 (node + 1)) refl
+
+    all_reads : {m : _} (entries : Row_of-Cond m) → IsTrue (all_true (by_entries (plain_cond_step n) entries)) → (node : ℕ)
+        → all_read (by_entries reading_step entries) node names ≡ Ok (all_true (by_entries (truth_step names) entries))
+    all_reads end_of-Cond h node = refl
+    all_reads (more_of-Cond x rest) h node =
+        let t = both_hold (plain_cond n x) (all_true (by_entries (plain_cond_step n) rest)) h in
+        bind_to (condition x node names) (is_true_at x names) _ _ (cond_reads x t.0 node) (chosen (is_true_at x names) _ _ (λ e. all_reads rest t.1 (node + nodes_of_cond x)))
+
+    some_reads : {m : _} (entries : Row_of-Cond m) → IsTrue (all_true (by_entries (plain_cond_step n) entries)) → (node : ℕ)
+        → some_read (by_entries reading_step entries) node names ≡ Ok (some_true (by_entries (truth_step names) entries))
+    some_reads end_of-Cond h node = refl
+    some_reads (more_of-Cond x rest) h node =
+        let t = both_hold (plain_cond n x) (all_true (by_entries (plain_cond_step n) rest)) h in
+        bind_to (condition x node names) (is_true_at x names) _ _ (cond_reads x t.0 node) (chosen_some (is_true_at x names) _ _ (some_reads rest t.1 (node + nodes_of_cond x)))
+
+pub plain_cond_reads : (n : ℕ) (names : List ℤ) (cond : Cond) → n ≡ length names → Near names → IsTrue (plain_cond n cond) → IsReadableCond cond names
+plain_cond_reads n names cond l near h = cond_reads n names l near cond h
 
 pub plain_value_read : (n : ℕ) (names : List ℤ) (e : Val) → n ≡ length names → Near names → IsTrue (plain_value e n) → ReadsValue e names
 plain_value_read n names (v.Load array subs) l near h = all_plain_read n names subs l near h

@@ -1,8 +1,8 @@
 -- Where a source's run ends, all that it comes to is read and done.
 use Rattle.std.proofs.Common.{◌≡◌, ℕ, zero, suc, ◌+◌, ◌<◌, ◌≤◌, ℤ, pos, ◌+ℤ◌, Bool, true, false, true≢false, T, ◌&&◌, if◌then◌else◌, int_le, List, [], ◌∷◌, ◌++◌, length, map, flat_map, sum_by, Some, Result, Ok, Err, refl, sym, ap, subst, ◌∙◌, inl, inr, arith}
-use Rattle.std.specs.Prelude.{slice_get}
+use Rattle.std.specs.Prelude.{slice_get, not}
 use Rattle.std.proofs.lemmas.Option.{none-some, same_Some, slice_get_within}
-use Rattle.affc_ast.specs.declared.tree.Compare.{Compare}
+use Rattle.affc_ast.specs.declared.tree.Cond.{Cond}
 use Rattle.affc_ast.specs.declared.tree.Ix.{Ix}
 use Rattle.affc_ast.specs.declared.tree.Program.{Program}
 use Rattle.affc_ast.specs.declared.tree.Rel.{Rel}
@@ -10,23 +10,28 @@ use Rattle.affc_ast.specs.declared.tree.Stmt.{Stmt}
 use Rattle.affc_ast.specs.declared.tree.Stmt.TheVariants as s
 use Rattle.affc_ast.specs.declared.tree.Stmt.TheBlock.{Row_of-Stmt, more_of-Stmt, end_of-Stmt}
 use Rattle.affc_ast.specs.Cause.{Cause}
-use Rattle.affc_ast.specs.Fits.{whole, all_hold}
-use Rattle.affc_ast.specs.Index.{in_int64, conditions, index_value, nodes_of_ix, nodes_of_compare, compares}
-use Rattle.affc_ast.specs.Meaning.{State, Outcome, Ended, Stuck, Position, then_do, reading, begun, turns_of, turns, in_order, with_iterator, inside, past, assigned, stmt_step, denotation_of, all_extents, arrays_of, nodes_of_decls, meaning}
+use Rattle.affc_ast.specs.Conditions.{nodes_of_cond, condition}
+use Rattle.affc_ast.specs.Denials.{denied}
+use Rattle.affc_ast.specs.Fits.{whole, is_true_at}
+use Rattle.affc_ast.specs.Index.{in_int64, index_value, nodes_of_ix, nodes_of_compare}
+use Rattle.affc_ast.specs.Meaning.{State, Outcome, Ended, Stuck, Position, then_do, reading, begun, turns_of, turns, in_order, with_iterator, inside, past, past_all, assigned, stmt_step, denotation_of, all_extents, arrays_of, nodes_of_decls, meaning}
 use Rattle.affc_ast.specs.Recursion.{by_stmt, by_each}
 use Rattle.affc_ast.specs.Trace.{count_from, Assignment, assignments_step, assignments}
 use Rattle.affc_ast.specs.Values.{Scope}
 use Rattle.affc_ast.specs.Store.{Store}
+use Rattle.affc_ast.proofs.ConditionReadings.{condition_is_true}
+use Rattle.affc_ast.proofs.DenialLemmas.{denial}
 use Rattle.affc_ast.proofs.Steps.{row_of, unrolled, flat_unrolled}
 use Rattle.affc_trace.specs.Effects.{all_true, plain_step, has_no_locals}
 use Rattle.affc_trace.specs.Law.{IsIn}
-use Rattle.affc_trace.proofs.EndedReads.{bind_ok, is_whole, ok_if, conditions_hold, append_assoc}
+use Rattle.affc_trace.proofs.EndedReads.{is_whole, ok_if, append_assoc}
 use Rattle.affc_trace.proofs.LastStores.{append_nil}
-use Rattle.affc_trace.proofs.Runs.{part_count, walk_count, both_true as both_parts}
+use Rattle.affc_trace.proofs.Runs.{part_count, parts_count, walk_count, walks_count, both_true as both_parts}
 use Rattle.affc_domain.specs.Rounds.{Round, Loop, Test, rounds_step, rounds, goes_on, turns as all_turn}
-use Rattle.affc_safe.proofs.Along.{IsRead, AreRead, IsDone, Comes}
-use Rattle.affc_domain.proofs.Lists.{both_true, from_append, from_map}
-use Rattle.affc_domain.proofs.TurnLemmas.{rounds_count, to_turn}
+use Rattle.affc_safe.proofs.Along.{IsRead, IsReadCond, IsDone, Comes}
+use Rattle.affc_safe.proofs.Denied.{denied_is_read}
+use Rattle.affc_domain.proofs.Lists.{both_true, from_append, from_map, length_map}
+use Rattle.affc_domain.proofs.TurnLemmas.{rounds_count, row_rounds_count, to_turn}
 
 -- ---- runs that end
 
@@ -58,22 +63,8 @@ turns_ended (suc n) node x body t u e y i =
 read_at : (e : Ix) (names : List ℤ) (node : ℕ) (x : ℤ) → index_value e node names ≡ Ok x → IsRead e names
 read_at e names node x h = (node, h ∙ ap (λ z. Ok z) (sym (is_whole e names node x h)))
 
-conditions_are : (cs : List Compare) (names : List ℤ) (node : ℕ) (b : Bool) → conditions cs node names ≡ Ok b → AreRead cs names
-conditions_are [] names node b e = tt
-conditions_are (d ∷ cs) names node b e =
-    let l = bind_ok (index_value d.left (node + 1) names) _ _ e in
-    let r = bind_ok (index_value d.right (node + 1 + nodes_of_ix d.left) names) _ _ l.2 in (
-      read_at d.left names (node + 1) l.0 l.1,
-      read_at d.right names _ r.0 r.1,
-      λ h.
-          conditions_are cs names (node + nodes_of_compare d) b
-          (go_on (compares d.rel l.0 r.0) (conditions cs (node + nodes_of_compare d) names) b
-          (ap (λ z. compares d.rel z r.0) (sym (is_whole d.left names _ l.0 l.1)) ∙ ap (compares d.rel (whole d.left names)) (sym (is_whole d.right names _ r.0 r.1)) ∙ h) r.2),
-    )
-  where
-    go_on : (c : Bool) (q : Result Bool Cause) (b : Bool) → c ≡ true → (if c then q else Ok false) ≡ Ok b → q ≡ Ok b
-    go_on true q b h e = e
-    go_on false q b h e = absurd (true≢false (sym h))
+read_cond_at : (cond : Cond) (names : List ℤ) (node : ℕ) (b : Bool) → condition cond node names ≡ Ok b → IsReadCond cond names
+read_cond_at cond names node b h = (node, h ∙ ap (λ z. Ok z) (sym (condition_is_true cond names node b h)))
 
 abbrev joined_rounds : {n : _} → Row_of-Stmt n → List (List Round)
 joined_rounds body = flat_map (λ a. a) (by_each rounds_step body)
@@ -87,6 +78,9 @@ ComesAt rss as' names extents = (m : ℕ) (rs : List Round) (a : Assignment) →
 
 as_many : (x : Stmt) → length (by_stmt rounds_step x) ≡ length (by_stmt assignments_step x)
 as_many x = rounds_count [] x ∙ walk_count [] x ∙ part_count x
+
+row_as_many : {n : _} (body : Row_of-Stmt n) → length (joined_rounds body) ≡ length (joined_assignments body)
+row_as_many body = row_rounds_count [] body ∙ walks_count [] body ∙ parts_count body
 
 out_of : {A : Type 0} (xs : List A) (m : ℕ) (x : A) → slice_get xs m ≡ Some x → length xs ≤ m → ⊥
 out_of xs m x e l = let h : m < length xs = slice_get_within xs m x e in omega arith
@@ -117,20 +111,31 @@ comes_loop iter low rel high rs a names extents (x ∷ xs) l h inner = record {
       subst (λ n. IsDone a n extents) (append_assoc names (x ∷ []) xs) ((inner x b.0 c.0 xs).done c.1);
 }
 
-comes_tests : (conds : List Compare) (rs : List Round) (a : Assignment) (names : List ℤ) (extents : List (List ℤ)) (xs : List ℤ)
-    → AreRead conds names → (all_hold conds names ≡ true → Comes rs a names xs extents) → Comes (Test conds ∷ rs) a names xs extents
-comes_tests conds rs a names extents xs r inner = record {
+comes_test : (cond : Cond) (rs : List Round) (a : Assignment) (names : List ℤ) (extents : List (List ℤ)) (xs : List ℤ)
+    → IsReadCond cond names → (is_true_at cond names ≡ true → Comes rs a names xs extents) → Comes (Test cond ∷ rs) a names xs extents
+comes_test cond rs a names extents xs r inner = record {
   along = (r, λ h. (inner h).along);
-  done = λ l. let b = both_true (all_hold conds names) (all_turn rs names xs) l in (inner b.0).done b.1;
+  done = λ l. let b = both_true (is_true_at cond names) (all_turn rs names xs) l in (inner b.0).done b.1;
 }
+
+-- all that stands under a condition
+under_test : (cond : Cond) (rss : List (List Round)) (as' : List Assignment) (names : List ℤ) (extents : List (List ℤ))
+    → IsReadCond cond names → (is_true_at cond names ≡ true → ComesAt rss as' names extents) → ComesAt (map (λ rs. Test cond ∷ rs) rss) as' names extents
+under_test cond rss as' names extents r inner m rs a g f xs =
+    let q = from_map (λ rs. Test cond ∷ rs) rss m rs g in
+    subst (λ rs. Comes rs a names xs extents) (sym q.2) (comes_test cond q.0 a names extents xs r (λ h. inner h m q.0 a q.1 f xs))
 
 comes_here : (a : Assignment) (names : List ℤ) (extents : List (List ℤ)) (xs : List ℤ) → IsDone a names extents → Comes [] a names xs extents
 comes_here a names extents [] d = record { along = tt; done = λ r. subst (λ n. IsDone a n extents) (sym (append_nil names)) d }
 comes_here a names extents (x ∷ xs) d = record { along = tt; done = λ r. absurd (true≢false (sym r)) }
 
-if_ended : (b : Bool) (o : Outcome) (t u : State) → b ≡ true → (if b then o else Ended t) ≡ Ended u → o ≡ Ended u
-if_ended true o t u h e = e
-if_ended false o t u h e = absurd (true≢false (sym h))
+if_ended : (b : Bool) (o o' : Outcome) (u : State) → b ≡ true → (if b then o else o') ≡ Ended u → o ≡ Ended u
+if_ended true o o' u h e = e
+if_ended false o o' u h e = absurd (true≢false (sym h))
+
+else_ended : (b : Bool) (o o' : Outcome) (u : State) → not b ≡ true → (if b then o else o') ≡ Ended u → o' ≡ Ended u
+else_ended true o o' u h e = absurd (true≢false (sym h))
+else_ended false o o' u h e = e
 
 mutual
   stmt_comes : (x : Stmt) (place : Position) (scope : Scope) (t u : State) → T (by_stmt plain_step x) → (denotation_of x).run place scope t ≡ Ended u
@@ -146,12 +151,17 @@ mutual
       let turn = turns_ended (turns_of rel first.0 last.0) place.node first.0 _ t u last.2 x
       (to_turn rel first.0 last.0 x (ap (λ z. int_le z x) (sym low_is) ∙ l) (ap (goes_on rel x) (sym high_is) ∙ h)) in
       row_comes body (inside place (1 + nodes_of_ix low + nodes_of_ix high)) (with_iterator scope x) turn.0 turn.1 plain turn.2 m inner.0 a inner.1 f ys))
-  stmt_comes (s.If' conds shape body) place scope t u plain e m rs a g f xs =
-      let read = reading_ended (conditions conds (place.node + 1) scope.names) t _ u e in
-      let inner = from_map (λ rs. Test conds ∷ rs) (joined_rounds body) m rs g in
-      subst (λ rs. Comes rs a scope.names xs scope.extents) (sym inner.2)
-      (comes_tests conds inner.0 a scope.names scope.extents xs (conditions_are conds scope.names (place.node + 1) read.0 read.1) (λ h.
-      row_comes body _ scope t u plain (if_ended read.0 _ t u (sym (conditions_hold conds scope.names _ read.0 read.1) ∙ h) read.2) m inner.0 a inner.1 f xs))
+  stmt_comes (s.If' cond shape body shape' other) place scope t u plain e m rs a g f xs =
+      let both = both_parts (all_true (by_each plain_step body)) (all_true (by_each plain_step other)) plain in
+      let read = reading_ended (condition cond (place.node + 1) scope.names) t _ u e in
+      let there : IsReadCond cond scope.names = read_cond_at cond scope.names _ read.0 read.1 in
+      let b : read.0 ≡ is_true_at cond scope.names = sym (condition_is_true cond scope.names _ read.0 read.1) in
+      from_both (map (λ rs. Test cond ∷ rs) (joined_rounds body)) (map (λ rs. Test (denied cond) ∷ rs) (joined_rounds other)) (joined_assignments body) (joined_assignments other) scope.names scope.extents
+      (length_map (λ rs. Test cond ∷ rs) (joined_rounds body) ∙ row_as_many body)
+      (under_test cond (joined_rounds body) (joined_assignments body) scope.names scope.extents there (λ h.
+      row_comes body (inside place (1 + nodes_of_cond cond)) scope t u both.0 (if_ended read.0 _ _ u (b ∙ h) read.2)))
+      (under_test (denied cond) (joined_rounds other) (joined_assignments other) scope.names scope.extents (denied_is_read cond scope.names there) (λ h.
+      row_comes other (past_all (by_each stmt_step body) (inside place (1 + nodes_of_cond cond))) scope t u both.1 (else_ended read.0 _ _ u (ap not b ∙ sym (denial cond scope.names) ∙ h) read.2))) m rs a g f xs
   stmt_comes (s.Assign op array subs value) place scope t u plain e zero rs a g f xs =
       let done = reading_ended (assigned op array subs value place.node scope t.store _) (begun t) _ u e in
       subst (λ rs. Comes rs a scope.names xs scope.extents) (same_Some [] rs g)

@@ -1,5 +1,5 @@
 -- A run that never overflows and keeps within the extents is stuck, if at all, for want of a value.
-use Rattle.std.proofs.Common.{◌≡◌, ℕ, ◌+◌, ◌^◌, ◌<◌, ◌≤◌, ℤ, pos, ◌+ℤ◌, ◌≤ℤ◌, T, Bool, true, false, true≢false, ◌&&◌, if◌then◌else◌, int_lt, IsTrue, List, [], ◌∷◌, ◌++◌, length, get_or, map, flat_map, sum_by, Option, Some, None, Result, Ok, Err, refl, sym, ap, subst, ◌∙◌, ◌⊎◌, inl, inr, arith}
+use Rattle.std.proofs.Common.{◌≡◌, ℕ, ◌+◌, ◌^◌, ◌<◌, ◌≤◌, ℤ, pos, ◌+ℤ◌, ◌≤ℤ◌, T, Bool, true, false, true≢false, ◌&&◌, if◌then◌else◌, int_lt, IsTrue, List, [], ◌∷◌, ◌++◌, length, get_or, map, flat_map, Option, Some, None, Result, Ok, Err, refl, sym, ap, subst, ◌∙◌, ◌⊎◌, inl, inr, arith}
 use Rattle.std.specs.Prelude.{unsigned_abs, slice_get, ◌||◌, nat_lt, nat_le}
 use Rattle.std.proofs.lemmas.Bool.{ltb-true, leb-true}
 use Rattle.std.proofs.lemmas.Int.{ints}
@@ -19,12 +19,13 @@ use Rattle.affc_ast.specs.declared.tree.Val.{Val}
 use Rattle.affc_ast.specs.declared.tree.Val.TheVariants as v
 use Rattle.affc_ast.specs.declared.tree.Val.TheBlock.{more_of-Val, end_of-Val}
 use Rattle.affc_ast.specs.Cause.{Cause, OutOfBounds, ◌>>=◌}
-use Rattle.affc_ast.specs.Fits.{whole, all_hold, within_ranges}
-use Rattle.affc_ast.specs.Index.{index_value, index_values, nodes_of_ix, nodes_of_compare, conditions}
-use Rattle.affc_ast.specs.Meaning.{State, Ended, Position, reading, begun, write, turns_of, in_order, with_iterator, inside, past, own_value, assigned, stmt_step, denotation_of}
+use Rattle.affc_ast.specs.Conditions.{nodes_of_cond, condition}
+use Rattle.affc_ast.specs.Fits.{whole, is_true_at, within_ranges}
+use Rattle.affc_ast.specs.Index.{index_value, index_values, nodes_of_ix}
+use Rattle.affc_ast.specs.Meaning.{State, Ended, Position, reading, begun, write, turns_of, in_order, with_iterator, inside, past, past_all, own_value, assigned, stmt_step, denotation_of}
 use Rattle.affc_ast.specs.Recursion.{by_stmt, by_each}
 use Rattle.affc_ast.specs.Store.{Element, Store, at}
-use Rattle.affc_ast.specs.Trace.{count_from, Assignment, assignments_step, walk_step, in_walk_order, loads_of_value, own_load, element}
+use Rattle.affc_ast.specs.Trace.{count_from, Assignment, assignments_step, walk_step, in_walk_order, assigns_of, loads_of_value, own_load, element}
 use Rattle.affc_ast.specs.Values.{Scope, Sight, deeper, is_within, touch, held, load, value_of, operate, complement, shifted, converted}
 use Rattle.affc_ast.proofs.Steps.{row_of, unrolled, flat_unrolled}
 use Rattle.affc_trace.specs.Law.{IsIn, Effect}
@@ -32,17 +33,17 @@ use Rattle.affc_trace.specs.Laws.{IsUnwritten}
 use Rattle.affc_trace.specs.Effects.{effect_by, all_true, plain_step}
 use Rattle.affc_trace.proofs.EndedReads.{append_assoc}
 use Rattle.affc_trace.proofs.Members.{both_hold, to_first, to_second, to_flat_map}
-use Rattle.affc_trace.proofs.Runs.{PartsAt, parts_left, parts_right, part_count, walk_count, both_true}
+use Rattle.affc_trace.proofs.Runs.{PartsAt, parts_left, parts_right, part_count, parts_count, walk_count, walks_count, both_true}
 use Rattle.affc_trace.proofs.TraceEffects.{effect_in}
-use Rattle.affc_domain.specs.Plain.{is_plain, plain_tests}
+use Rattle.affc_domain.specs.Plain.{is_plain, plain_cond}
 use Rattle.affc_domain.specs.Ranges.{is_near, number_ranges, range_of}
 use Rattle.affc_safe.specs.Overflow.{near_or_never, all_near, near_step, near_ranges, keeps_near, AreReadable, ReadsValue, ReadsAssignment}
 use Rattle.affc_domain.proofs.Lists.{true_le}
 use Rattle.affc_domain.proofs.PlainLemmas.{is_plain_affine}
 use Rattle.affc_domain.proofs.RangeLemmas.{box_length, box_push, in_range, in_ranges}
 use Rattle.affc_domain.proofs.TurnLemmas.{turn_goes_on}
-use Rattle.affc_safe.proofs.PlainReads.{Near, box_near, near_push, near_between, small_is_int64, plain_reads, plain_tests_read}
-use Rattle.affc_safe.proofs.Wants.{Wants, wants_ended, wants_then, wants_reading, wants_if, wants_turns, conditions_read, bind_to}
+use Rattle.affc_safe.proofs.PlainReads.{Near, box_near, near_push, near_between, small_is_int64, plain_reads, plain_cond_reads}
+use Rattle.affc_safe.proofs.Wants.{Wants, wants_ended, wants_then, wants_reading, wants_if, wants_turns, bind_to}
 
 -- ---- results that are there, or for which a value is wanting
 
@@ -176,9 +177,13 @@ turned ranges names low rel high y inside sits f l h q i =
       inside_near = e.1;
     }
 
-pub to_if : (b : Bool) (a : Instance) (is : List Instance) → b ≡ true → IsIn a is → IsIn a (if b then is else [])
-to_if true a is e i = i
-to_if false a is e i = absurd (true≢false (sym e))
+pub to_if : (b : Bool) (a : Instance) (is js : List Instance) → b ≡ true → IsIn a is → IsIn a (if b then is else js)
+to_if true a is js e i = i
+to_if false a is js e i = absurd (true≢false (sym e))
+
+pub to_else : (b : Bool) (a : Instance) (is js : List Instance) → b ≡ false → IsIn a js → IsIn a (if b then is else js)
+to_else true a is js e i = absurd (true≢false e)
+to_else false a is js e i = i
 
 -- ---- the walk
 
@@ -215,13 +220,24 @@ module _ (all : List Assignment) (p : List ℤ) (extents : List (List ℤ)) wher
         (λ b j. keep b (to_flat_map (λ z. in_walk_order (by_each (walk_step p) body) k (ts ++ z ∷ [])) (count_from (turns_of rel (whole low (p ++ ts)) (whole high (p ++ ts))) (whole low (p ++ ts))) y b
         (subst (λ m. IsIn y (count_from (turns_of rel (whole low m) (whole high m)) (whole low m))) n i) j))
         (inside place (1 + nodes_of_ix low + nodes_of_ix high)) (with_iterator scope y) u turn.sits (ap (λ m. m ++ y ∷ []) n ∙ append_assoc p ts (y ∷ [])) x)))
-    stmt_wants (s.If' conds shape body) k ts ranges bare small parts keep place scope t sits n x =
-        let a = both_hold (plain_tests (length ranges) conds) _ small in
+    stmt_wants (s.If' cond shape body shape' other) k ts ranges bare small parts keep place scope t sits n x =
+        let both = both_true (all_true (by_each plain_step body)) (all_true (by_each plain_step other)) bare in
+        let a = both_hold (plain_cond (length ranges) cond) _ small in
+        let q = both_hold (all_near (by_each near_step body) ranges) (all_near (by_each near_step other) ranges) a.1 in
         let l : length ranges ≡ length scope.names = box_length ranges scope.names sits.box in
-        wants_reading (conditions conds (place.node + 1) scope.names) (all_hold conds scope.names) t _ (conditions_read conds scope.names (place.node + 1) (plain_tests_read (length ranges) scope.names conds l sits.near a.0))
-        (wants_if (all_hold conds scope.names) _ t (λ e.
-        row_wants body k ts ranges bare a.1 parts (λ b j. keep b (to_if (all_hold conds (p ++ ts)) b _ (ap (all_hold conds) (sym n) ∙ e) j))
-        (inside place (1 + sum_by nodes_of_compare conds)) scope t sits n x))
+        let first : List Assignment = flat_map (λ a. a) (by_each assignments_step body) in
+        let second : List Assignment = flat_map (λ a. a) (by_each assignments_step other) in
+        let more : ℕ = k + assigns_of (by_each (walk_step p) body) in
+        let right : PartsAt all more second = subst (λ m. PartsAt all (k + m) second) (sym (walks_count p body ∙ parts_count body)) (parts_right all k first second parts) in
+        let here : is_true_at cond (p ++ ts) ≡ is_true_at cond scope.names = ap (is_true_at cond) (sym n) in
+        wants_reading (condition cond (place.node + 1) scope.names) (is_true_at cond scope.names) t _ (plain_cond_reads (length ranges) scope.names cond l sits.near a.0 (place.node + 1))
+        (wants_if (is_true_at cond scope.names) _ _
+        (λ e.
+        row_wants body k ts ranges both.0 q.0 (parts_left all k first second parts) (λ b j. keep b (to_if (is_true_at cond (p ++ ts)) b _ _ (here ∙ e) j))
+        (inside place (1 + nodes_of_cond cond)) scope t sits n x)
+        (λ e.
+        row_wants other more ts ranges both.1 q.1 right (λ b j. keep b (to_else (is_true_at cond (p ++ ts)) b _ _ (here ∙ e) j))
+        (past_all (by_each stmt_step body) (inside place (1 + nodes_of_cond cond))) scope t sits n x))
     stmt_wants (s.Assign op array subs value) k ts ranges bare small parts keep place scope t sits n x =
         let a : Assignment = record { op = op; array = array; subs = subs; value = value } in
         let z : k + 0 ≡ k = omega arith in

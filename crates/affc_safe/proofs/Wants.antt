@@ -1,14 +1,14 @@
 -- Runs that are stuck, if at all, for want of a value.
-use Rattle.std.proofs.Common.{◌≡◌, ℕ, zero, suc, ◌+◌, ℤ, pos, ◌+ℤ◌, Bool, true, false, ◌&&◌, if◌then◌else◌, List, [], ◌∷◌, Result, Ok, Err, refl, sym, ap, subst, ◌∙◌, inl, inr}
-use Rattle.affc_ast.specs.declared.tree.Compare.{Compare}
+use Rattle.std.proofs.Common.{◌≡◌, ℕ, zero, suc, ℤ, pos, ◌+ℤ◌, Bool, true, false, ◌&&◌, if◌then◌else◌, List, Result, Ok, Err, refl, sym, ap, subst, ◌∙◌, inl, inr}
+use Rattle.affc_ast.specs.declared.tree.Cond.{Cond}
 use Rattle.affc_ast.specs.Cause.{Cause, Overflow, ◌>>=◌}
-use Rattle.affc_ast.specs.Index.{in_int64, is_int64, conditions, index_value, nodes_of_ix, nodes_of_compare, compares}
+use Rattle.affc_ast.specs.Conditions.{condition}
+use Rattle.affc_ast.specs.Index.{in_int64, is_int64}
 use Rattle.affc_ast.specs.Meaning.{State, Outcome, Ended, Stuck, then_do, reading, begun, turns}
-use Rattle.affc_ast.specs.Fits.{whole, all_hold}
+use Rattle.affc_ast.specs.Fits.{is_true_at}
 use Rattle.affc_ast.specs.Trace.{count_from}
 use Rattle.affc_trace.specs.Law.{IsIn}
 use Rattle.affc_trace.specs.Laws.{IsUnwritten}
-use Rattle.affc_safe.specs.Overflow.{IsReadable}
 
 unfoldable pub Wants : Outcome → Type 0
 Wants (Ended t) = Unit {0}
@@ -26,10 +26,9 @@ wants_then (Stuck cause n) f w h = w
 pub wants_reading : {A : Type 0} (r : Result A Cause) (x : A) (t : State) (f : A → Outcome) → r ≡ Ok x → Wants (f x) → Wants (reading r t f)
 wants_reading r x t f e w = subst (λ q. Wants (reading q t f)) (sym e) w
 
-pub wants_if : (b : Bool) (o : Outcome) (t : State) → (b ≡ true → Wants o) → Wants (if b then o else Ended t)
-unfolding Wants
-wants_if true o t h = h refl
-wants_if false o t h = tt
+pub wants_if : (b : Bool) (o u : Outcome) → (b ≡ true → Wants o) → (b ≡ false → Wants u) → Wants (if b then o else u)
+wants_if true o u h k = h refl
+wants_if false o u h k = k refl
 
 pub int64_ok : (node : ℕ) (z : ℤ) → is_int64 z ≡ true → in_int64 node z ≡ Ok z
 int64_ok node z e = ap (λ b. if b then Ok z else Err (Overflow node)) e
@@ -45,21 +44,13 @@ wants_turns (suc n) node x body t s h =
 
 -- ---- reading
 
--- conditions can be read up to the first that is false
-abbrev pub ReadableAll : List Compare → List ℤ → Type 0
-ReadableAll [] names = Unit {0}
-ReadableAll (c ∷ cs) names = IsReadable c.left names × IsReadable c.right names × (compares c.rel (whole c.left names) (whole c.right names) ≡ true → ReadableAll cs names)
+-- the condition is read as it is true or false, at any node
+abbrev pub IsReadableCond : Cond → List ℤ → Type 0
+IsReadableCond cond names = (node : ℕ) → condition cond node names ≡ Ok (is_true_at cond names)
 
 pub bind_to : {A B : Type 0} (r : Result A Cause) (x : A) (f : A → Result B Cause) (y : B) → r ≡ Ok x → f x ≡ Ok y → r >>= f ≡ Ok y
 bind_to r x f y e g = ap (λ q. q >>= f) e ∙ g
 
-chosen : (b : Bool) (q : Result Bool Cause) (d : Bool) → (b ≡ true → q ≡ Ok d) → (if b then q else Ok false) ≡ Ok (b && d)
+pub chosen : (b : Bool) (q : Result Bool Cause) (d : Bool) → (b ≡ true → q ≡ Ok d) → (if b then q else Ok false) ≡ Ok (b && d)
 chosen true q d h = h refl
 chosen false q d h = refl
-
-pub conditions_read : (cs : List Compare) (names : List ℤ) (node : ℕ) → ReadableAll cs names → conditions cs node names ≡ Ok (all_hold cs names)
-conditions_read [] names node r = refl
-conditions_read (c ∷ cs) names node r =
-    bind_to (index_value c.left (node + 1) names) (whole c.left names) _ _ (r.0 (node + 1))
-    (bind_to (index_value c.right (node + 1 + nodes_of_ix c.left) names) (whole c.right names) _ _ (r.1 (node + 1 + nodes_of_ix c.left))
-    (chosen (compares c.rel (whole c.left names) (whole c.right names)) (conditions cs (node + nodes_of_compare c) names) (all_hold cs names) (λ e. conditions_read cs names (node + nodes_of_compare c) (r.2 e))))

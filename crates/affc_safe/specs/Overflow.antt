@@ -14,7 +14,7 @@ use Rattle.affc_ast.specs.Recursion.{by_stmt}
 use Rattle.affc_ast.specs.Trace.{Assignment, assignments, trace}
 use Rattle.affc_trace.specs.Law.{IsIn}
 use Rattle.affc_domain.specs.Arrays.{declared_arrays}
-use Rattle.affc_domain.specs.Plain.{is_plain, plain_tests}
+use Rattle.affc_domain.specs.Plain.{is_plain, plain_cond}
 use Rattle.affc_domain.specs.Ranges.{is_near, number_ranges, range_of}
 
 -- ---- Loops and conditions, by the interval rule
@@ -33,7 +33,7 @@ abbrev pub near_step : Stmt-F (List (ℤ × ℤ) → Bool) → (ranges : List (�
 near_step (For iter low rel high body) ranges =
     let r = range_of ranges low rel high in
     nat_lt (length ranges) 16 && (is_plain (length ranges) low && (is_plain (length ranges) high && near_or_never r (all_near body (ranges ++ r ∷ []))))
-near_step (If conds body) ranges = plain_tests (length ranges) conds && all_near body ranges
+near_step (If cond body other) ranges = plain_cond (length ranges) cond && (all_near body ranges && all_near other ranges)
 near_step (Assign op array subs value) ranges = true
 near_step (Block locals body) ranges = all_near body ranges
 

@@ -1,11 +1,13 @@
 -- Programs that keep within `int64_t`, and programs that don't. Each was judged by hand from the rules.
 use Rattle.std.specs.Prelude.{◌≡◌, ℕ, zero, suc, ◌^◌, ◌+◌, false, true, ℤ, pos, neg_ℤ, List, [], ◌∷◌, None, replicate}
+use Rattle.affc_ast.specs.declared.tree.Cond.{Cond}
+use Rattle.affc_ast.specs.declared.tree.Cond.TheVariants.{Compare, All, Any, Divides}
 use Rattle.affc_ast.specs.declared.tree.Ix.{Ix}
 use Rattle.affc_ast.specs.declared.tree.Ix.TheVariants.{Lit, Name, Add, Sub, Mul, Min}
 use Rattle.affc_ast.specs.declared.tree.Op.TheVariants as op
 use Rattle.affc_ast.specs.declared.tree.Param.TheVariants.{Number}
 use Rattle.affc_ast.specs.declared.tree.Program.{Program}
-use Rattle.affc_ast.specs.declared.tree.Rel.TheVariants.{Less, LessEqual}
+use Rattle.affc_ast.specs.declared.tree.Rel.TheVariants.{Less, LessEqual, NotEqual}
 use Rattle.affc_ast.specs.declared.tree.Role.TheVariants.{Temp}
 use Rattle.affc_ast.specs.declared.tree.Stmt.{Stmt}
 use Rattle.affc_ast.specs.declared.tree.Stmt.TheVariants.{For, If, Assign, Block}
@@ -50,6 +52,10 @@ store subscript value = Assign None (record { 0 = 1 }) (subscript ∷ []) value
 abbrev touch : Stmt
 touch = store (lit 0) (Const 1)
 
+-- 1 < 0
+abbrev less : Cond
+less = Compare Less (lit 1) (lit 0)
+
 -- i goes up to 65536 N, so to 2^18, and j up to 8192 i + more, so to 2^31 + more
 abbrev far : (more : ℕ) → Stmt
 far more = each (lit 0) (Mul (lit 65536) (name 0)) (each (lit 0) (Add (Mul (lit 8192) (name 1)) (lit more)) touch)
@@ -67,7 +73,9 @@ IteratorsKeepNear =
     × (keeps_near (running (touch ∷ far 1 ∷ [])) ≡ false)
     × (keeps_near (running (far 1 ∷ touch ∷ [])) ≡ false)
     × (keeps_near (running (Block [] (far 1 ∷ []) ∷ [])) ≡ false)
-    × (keeps_near (running (If (record { rel = Less; left = lit 1; right = lit 0 } ∷ []) (far 1 ∷ []) ∷ [])) ≡ false)
+    × (keeps_near (running (If less (far 1 ∷ []) [] ∷ [])) ≡ false)
+    × (keeps_near (running (If less (touch ∷ []) (far 1 ∷ []) ∷ [])) ≡ false)
+    × (keeps_near (running (If less (far 0 ∷ []) (far 0 ∷ []) ∷ [])) ≡ true)
 
 -- inside of a loop that is never entered, and of one that is entered once at most
 abbrev pub NeverEntered : Type 0
@@ -75,13 +83,24 @@ NeverEntered =
     (keeps_near (running (each (lit 1) (lit 0) (each (lit 0) (Min (lit 0) (lit 0)) touch) ∷ [])) ≡ true)
     × (keeps_near (running (each (lit 0) (lit 0) (each (lit 0) (Min (lit 0) (lit 0)) touch) ∷ [])) ≡ false)
 
+abbrev under : Cond → Program
+under cond = running (If cond (touch ∷ []) [] ∷ [])
+
 -- bounds and conditions have no calls; of assignments nothing is asked here
 abbrev pub BoundsArePlain : Type 0
 BoundsArePlain =
     (keeps_near (running (each (Min (lit 0) (lit 1)) (lit 1) touch ∷ [])) ≡ false)
     × (keeps_near (running (each (lit 0) (Min (lit 0) (lit 1)) touch ∷ [])) ≡ false)
-    × (keeps_near (running (If (record { rel = Less; left = lit 0; right = Min (lit 0) (lit 1) } ∷ []) (touch ∷ []) ∷ [])) ≡ false)
+    × (keeps_near (under (Compare Less (lit 0) (Min (lit 0) (lit 1)))) ≡ false)
     × (keeps_near (running (store (Min (lit 0) (lit 1)) (Const 1) ∷ [])) ≡ true)
+
+-- all that a condition joins is looked at, and a divisor is at most 2^16
+abbrev pub ConditionsArePlain : Type 0
+ConditionsArePlain =
+    (keeps_near (under (Any (less ∷ All (Compare NotEqual (name 0) (lit 3) ∷ Divides (name 0) (pos 65536) false ∷ []) ∷ []))) ≡ true)
+    × (keeps_near (under (Any (less ∷ Compare Less (lit 0) (Min (lit 0) (lit 1)) ∷ []))) ≡ false)
+    × (keeps_near (under (All (less ∷ Divides (Min (lit 0) (lit 1)) (pos 2) true ∷ []))) ≡ false)
+    × (keeps_near (under (Divides (name 0) (pos 65537) true)) ≡ false)
 
 -- so many loops, one in the other
 abbrev nested : ℕ → Stmt

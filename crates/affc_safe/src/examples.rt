@@ -1,6 +1,6 @@
 //! What the definitions give at small programs, as laws: `specs/Examples.antt` and `specs/OverflowExamples.antt` say each.
 ghost use Rattle.affc_safe.specs.Examples.{BlurIsSafe, EmptyOutputIsNot, UntouchedArrayCounts, LaterExtentCounts, StoreLiesOutside, LoadLiesOutside, StoreComesLate, OwnLoadCounts, WithoutTemporaries};
-ghost use Rattle.affc_safe.specs.OverflowExamples.{BlurIsPlain, BlurEnds, IteratorsKeepNear, NeverEntered, BoundsArePlain, SixteenNames, ParametersKeepNear, WideAssignments, WideExtents, NothingOverflows};
+ghost use Rattle.affc_safe.specs.OverflowExamples.{BlurIsPlain, BlurEnds, IteratorsKeepNear, NeverEntered, BoundsArePlain, ConditionsArePlain, SixteenNames, ParametersKeepNear, WideAssignments, WideExtents, NothingOverflows};
 
 /// Safe programs.
 pub fn safe()
@@ -38,6 +38,7 @@ pub fn near()
     ensures iterators { IteratorsKeepNear }
     ensures never_entered { NeverEntered }
     ensures bounds { BoundsArePlain }
+    ensures conditions { ConditionsArePlain }
     ensures names { SixteenNames }
     ensures parameters { ParametersKeepNear }
 {}

@@ -1,22 +1,27 @@
 -- What is plain holds only names with small numbers.
 use Rattle.std.proofs.Common.{◌≡◌, ℕ, suc, ◌+◌, ◌<◌, ◌≤◌, true, ◌&&◌, IsTrue, nat_lt, List, [], ◌∷◌, length, refl, arith}
 use Rattle.std.proofs.lemmas.Bool.{ltb-true, lt-ltb}
-use Rattle.affc_ast.specs.declared.tree.Compare.{Compare}
+use Rattle.affc_ast.specs.declared.tree.Cond.{Cond}
+use Rattle.affc_ast.specs.declared.tree.Cond.TheVariants as d
+use Rattle.affc_ast.specs.declared.tree.Cond.TheBlock.{Row_of-Cond, more_of-Cond, end_of-Cond}
 use Rattle.affc_ast.specs.declared.tree.Ix.{Ix}
 use Rattle.affc_ast.specs.declared.tree.Ix.TheVariants as c
 use Rattle.affc_ast.specs.declared.tree.Ix.TheBlock.{more_of-Ix, end_of-Ix}
 use Rattle.affc_ast.specs.declared.tree.Val.{Val}
 use Rattle.affc_ast.specs.declared.tree.Val.TheVariants as v
 use Rattle.affc_ast.specs.declared.tree.Val.TheBlock.{more_of-Val, end_of-Val}
+use Rattle.affc_ast.specs.Fits.{all_true}
+use Rattle.affc_ast.specs.Pieces.{comparisons_of}
+use Rattle.affc_ast.specs.Recursion.{by_entries}
 use Rattle.affc_ast.specs.Trace.{Assignment}
 use Rattle.affc_domain.specs.Accesses.{accesses_of}
 use Rattle.affc_domain.specs.Affine.{sees}
-use Rattle.affc_domain.specs.Plain.{is_plain, all_plain, plain_tests, plain_value, plain_assignment, is_upward}
+use Rattle.affc_domain.specs.Plain.{is_plain, all_plain, plain_cond_step, plain_cond, plain_value, plain_assignment, is_upward}
 use Rattle.affc_domain.specs.Rounds.{Round, Loop, Test}
 use Rattle.affc_domain.proofs.Lists.{both_true, true_both}
 use Rattle.affc_domain.proofs.PlainLemmas.{plain_rounds}
 use Rattle.std.specs.Prelude.{nat_le}
-use Rattle.affc_scan.specs.InSight.{in_sight, all_in_sight, tests_in_sight, value_in_sight, rounds_in_sight, IsInSight}
+use Rattle.affc_scan.specs.InSight.{in_sight, all_in_sight, cond_sight_step, cond_in_sight, value_in_sight, rounds_in_sight, IsInSight}
 
 module _ (m n : ℕ) (fewer : m ≤ n) where
   both : (a b : Ix) → (sees m a ≡ true → sees n a ≡ true) → (sees m b ≡ true → sees n b ≡ true) → sees m a && sees m b ≡ true → sees n a && sees n b ≡ true
@@ -43,12 +48,19 @@ module _ (n : ℕ) (few : n ≤ 1024) where
   all_plain_sight [] h = refl
   all_plain_sight (e ∷ es) h = let a = both_true (is_plain n e) (all_plain n es) h in true_both (in_sight e) (all_in_sight es) (plain_sight e a.0) (all_plain_sight es a.1)
 
-  plain_tests_sight : (cs : List Compare) → IsTrue (plain_tests n cs) → tests_in_sight cs ≡ true
-  plain_tests_sight [] h = refl
-  plain_tests_sight (d ∷ cs) h =
-      let a = both_true (is_plain n d.left) _ h in
-      let b = both_true (is_plain n d.right) (plain_tests n cs) a.1 in
-      true_both (in_sight d.left && in_sight d.right) (tests_in_sight cs) (true_both (in_sight d.left) (in_sight d.right) (plain_sight d.left a.0) (plain_sight d.right b.0)) (plain_tests_sight cs b.1)
+  mutual
+    plain_cond_sight : (x : Cond) → IsTrue (plain_cond n x) → cond_in_sight x ≡ true
+    plain_cond_sight (d.Compare rel left right) h =
+        let b = both_true (is_plain n left) (is_plain n right) h in true_both (in_sight left) (in_sight right) (plain_sight left b.0) (plain_sight right b.1)
+    plain_cond_sight (d.All' shape entries) h = plain_entries_sight entries h
+    plain_cond_sight (d.Any' shape entries) h = plain_entries_sight entries h
+    plain_cond_sight (d.Divides value by so) h = plain_sight value (both_true (is_plain n value) _ h).0
+
+    plain_entries_sight : {k : _} (entries : Row_of-Cond k) → IsTrue (all_true (by_entries (plain_cond_step n) entries)) → all_true (by_entries cond_sight_step entries) ≡ true
+    plain_entries_sight end_of-Cond h = refl
+    plain_entries_sight (more_of-Cond x rest) h =
+        let b = both_true (plain_cond n x) (all_true (by_entries (plain_cond_step n) rest)) h in
+        true_both (cond_in_sight x) (all_true (by_entries cond_sight_step rest)) (plain_cond_sight x b.0) (plain_entries_sight rest b.1)
 
   plain_value_sight : (e : Val) → IsTrue (plain_value e n) → value_in_sight e ≡ true
   plain_value_sight (v.Load array subs) h = all_plain_sight subs h
@@ -76,7 +88,7 @@ rounds_sight params loops comparisons (Loop iter low rel high ∷ rs) few l h =
     let n : params + loops ≤ 1024 = omega arith in
     true_both (in_sight low && in_sight high) (rounds_in_sight rs) (true_both (in_sight low) (in_sight high) (plain_sight (params + loops) n low d.0) (plain_sight (params + loops) n high e.0))
     (rounds_sight params (suc loops) comparisons rs few (omega arith) e.1)
-rounds_sight params loops comparisons (Test conds ∷ rs) few l h =
-    let a = both_true (plain_tests (params + loops) conds) (plain_rounds params loops (comparisons + length conds) rs) h in
+rounds_sight params loops comparisons (Test cond ∷ rs) few l h =
+    let a = both_true (plain_cond (params + loops) cond) (plain_rounds params loops (comparisons + comparisons_of cond) rs) h in
     let n : params + loops ≤ 1024 = omega arith in
-    true_both (tests_in_sight conds) (rounds_in_sight rs) (plain_tests_sight (params + loops) n conds a.0) (rounds_sight params loops (comparisons + length conds) rs few l a.1)
+    true_both (cond_in_sight cond) (rounds_in_sight rs) (plain_cond_sight (params + loops) n cond a.0) (rounds_sight params loops (comparisons + comparisons_of cond) rs few l a.1)

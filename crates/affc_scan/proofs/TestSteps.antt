@@ -2,13 +2,15 @@
 use Rattle.std.proofs.Common.{◌≡◌, ℕ, suc, ◌+◌, ◌^◌, ◌≤◌, ℤ, List, [], ◌∷◌, ◌++◌, get_or, ap, ◌∙◌, arith}
 use Rattle.std.specs.Prelude.{unsigned_abs}
 use Rattle.affc_rows.specs.Forms.{Affine}
-use Rattle.affc_ast.specs.declared.tree.Compare.{Compare}
+use Rattle.affc_ast.specs.declared.tree.Cond.{Cond}
+use Rattle.affc_ast.specs.declared.tree.Cond.TheVariants as c
 use Rattle.affc_ast.specs.declared.tree.Rel.TheVariants.{Equal}
 use Rattle.affc_trace.proofs.EndedReads.{append_assoc}
 use Rattle.affc_loops.specs.Limits.{IsSlight}
 use Rattle.affc_loops.specs.Loops.{box_tests, time_tests}
 use Rattle.affc_loops.specs.Trees.{name_at, form_tree}
 use Rattle.affc_loops.specs.terms.Sizes.{IsModest}
+use Rattle.affc_scan.specs.Conditions.{conditions}
 
 -- a form of a schedule can be printed
 pub slight_is_modest : (f : Affine) → IsSlight f → IsModest f
@@ -17,14 +19,15 @@ slight_is_modest f s = record {
   constant = let w : unsigned_abs f.constant ≤ 2 ^ 30 = s.1 in omega arith;
 }
 
-pub one_more_range : (made : List Compare) (r : ℤ × ℤ) (rs : List (ℤ × ℤ)) (from next : ℕ) → next ≡ from + 1 → (made ++ box_tests from (r ∷ [])) ++ box_tests next rs ≡ made ++ box_tests from (r ∷ rs)
+pub one_more_range : (made : List Cond) (r : ℤ × ℤ) (rs : List (ℤ × ℤ)) (from next : ℕ) → next ≡ from + 1
+    → (made ++ conditions (box_tests from (r ∷ []))) ++ conditions (box_tests next rs) ≡ made ++ conditions (box_tests from (r ∷ rs))
 one_more_range made r rs from next e =
     let q : next ≡ suc from = omega arith in
-    ap (λ n. (made ++ box_tests from (r ∷ [])) ++ box_tests n rs) q ∙ append_assoc made (box_tests from (r ∷ [])) (box_tests (suc from) rs)
+    ap (λ n. (made ++ conditions (box_tests from (r ∷ []))) ++ conditions (box_tests n rs)) q ∙ append_assoc made (conditions (box_tests from (r ∷ []))) (conditions (box_tests (suc from) rs))
 
-pub one_more_time : (made : List Compare) (f : Affine) (fs : List Affine) (first from component next : ℕ) → next ≡ component + 1
-    → (made ++ record { rel = Equal; left = name_at component; right = form_tree first from f } ∷ []) ++ time_tests first from next fs ≡ made ++ time_tests first from component (f ∷ fs)
+pub one_more_time : (made : List Cond) (f : Affine) (fs : List Affine) (first from component next : ℕ) → next ≡ component + 1
+    → (made ++ c.Compare Equal (name_at component) (form_tree first from f) ∷ []) ++ conditions (time_tests first from next fs) ≡ made ++ conditions (time_tests first from component (f ∷ fs))
 one_more_time made f fs first from component next e =
     let q : next ≡ suc component = omega arith in
-    let a : Compare = record { rel = Equal; left = name_at component; right = form_tree first from f } in
-    ap (λ n. (made ++ a ∷ []) ++ time_tests first from n fs) q ∙ append_assoc made (a ∷ []) (time_tests first from (suc component) fs)
+    let a : Cond = c.Compare Equal (name_at component) (form_tree first from f) in
+    ap (λ n. (made ++ a ∷ []) ++ conditions (time_tests first from n fs)) q ∙ append_assoc made (a ∷ []) (conditions (time_tests first from (suc component) fs))

@@ -1,10 +1,13 @@
 -- Trees whose names have numbers below a bound, so that a number of names more fits too.
 use Rattle.std.specs.Prelude.{◌≡◌, Bool, true, ◌&&◌, List, [], ◌∷◌}
-use Rattle.affc_ast.specs.declared.tree.Compare.{Compare}
+use Rattle.affc_ast.specs.declared.tree.Cond.{Cond}
+use Rattle.affc_ast.specs.declared.tree.Cond.TheOpen as cond
+use Rattle.affc_ast.specs.declared.tree.Cond.TheOpen.{Cond-F}
 use Rattle.affc_ast.specs.declared.tree.Ix.{Ix}
 use Rattle.affc_ast.specs.declared.tree.Val.{Val}
 use Rattle.affc_ast.specs.declared.tree.Val.TheOpen.{Val-F, Load, Const, Cast, Not, Bin, Shift}
-use Rattle.affc_ast.specs.Recursion.{by_val}
+use Rattle.affc_ast.specs.Fits.{all_true}
+use Rattle.affc_ast.specs.Recursion.{by_val, by_cond}
 use Rattle.affc_ast.specs.Trace.{Assignment}
 use Rattle.affc_domain.specs.Affine.{sees}
 use Rattle.affc_domain.specs.Rounds.{Round, Loop, Test}
@@ -16,9 +19,14 @@ abbrev pub all_in_sight : List Ix → Bool
 all_in_sight [] = true
 all_in_sight (e ∷ es) = in_sight e && all_in_sight es
 
-abbrev pub tests_in_sight : List Compare → Bool
-tests_in_sight [] = true
-tests_in_sight (c ∷ cs) = (in_sight c.left && in_sight c.right) && tests_in_sight cs
+abbrev pub cond_sight_step : Cond-F Bool → Bool
+cond_sight_step (cond.Compare rel left right) = in_sight left && in_sight right
+cond_sight_step (cond.All bs) = all_true bs
+cond_sight_step (cond.Any bs) = all_true bs
+cond_sight_step (cond.Divides value by so) = in_sight value
+
+abbrev pub cond_in_sight : Cond → Bool
+cond_in_sight = by_cond cond_sight_step
 
 abbrev pub value_sight_step : Val-F Bool → Bool
 value_sight_step (Load array subs) = all_in_sight subs
@@ -33,7 +41,7 @@ value_in_sight = by_val value_sight_step
 
 abbrev pub round_in_sight : Round → Bool
 round_in_sight (Loop iter low rel high) = in_sight low && in_sight high
-round_in_sight (Test conds) = tests_in_sight conds
+round_in_sight (Test cond) = cond_in_sight cond
 
 abbrev pub rounds_in_sight : List Round → Bool
 rounds_in_sight [] = true

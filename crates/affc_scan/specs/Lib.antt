@@ -1,5 +1,6 @@
 pub mod Operators
 pub mod InSight
+pub mod Conditions
 pub mod Blocks
 pub mod Numbered
 pub mod Alive

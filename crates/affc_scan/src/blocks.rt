@@ -1,22 +1,24 @@
 //! The block of a statement.
 ghost use Rattle.std.specs.Prelude.{◌≡◌, ◌≤◌, ◌+◌, ◌++◌, [], ◌∷◌, length, IfOk, true};
 ghost use Rattle.std.specs.List.{All};
-ghost use Rattle.affc_domain.specs.Rounds.{Loop, loops_in};
+ghost use Rattle.affc_ast.specs.declared.tree.Stmt.TheVariants as made;
+ghost use Rattle.affc_domain.specs.Rounds.{loops_in};
 ghost use Rattle.affc_loops.specs.Limits.{IsSlight, IsSmall};
-ghost use Rattle.affc_loops.specs.Loops.{loop_names, locals_of, if_any, loop_tests, guarded, moved_assign, block_of};
+ghost use Rattle.affc_loops.specs.Loops.{loop_names, locals_of, loop_tests, guarded, moved_assign, block_of};
 ghost use Rattle.affc_nest.specs.Frames.{seen, all_seen};
 ghost use Rattle.affc_nest.specs.Sites.{place};
 ghost use Rattle.affc_scan.specs.Alive.{as_scheduled};
 ghost use Rattle.affc_scan.specs.Blocks.{tested_body, HaveFew, IsPrintable};
+ghost use Rattle.affc_scan.specs.Conditions.{conditions, under_all, under_round};
 ghost use Rattle.affc_scan.specs.InSight.{in_sight, round_in_sight, rounds_in_sight, IsInSight};
 
 use crate::alive::Alive;
-use crate::moved::{moved_all, moved_tests, moved_val};
+use crate::moved::{moved_all, moved_cond, moved_val};
 use crate::tests_of::{add_between, box_tests, time_tests};
 use crate::trees::moved_ix;
 use affc_ast::Items;
 use affc_ast::text::Text;
-use affc_ast::tree::{Compare, Ix, Local, Rel, Stmt};
+use affc_ast::tree::{Cond, Ix, Local, Rel, Stmt};
 use affc_loops::terms::form_ix;
 use affc_nest::{Frame, Site};
 use affc_rows::Form;
@@ -31,15 +33,28 @@ pub(crate) fn one(alloc: Global, statement: Stmt) -> Result<Items<Stmt>, AllocEr
     Ok(made)
 }
 
-/// The body under these conditions, if there are any.
-fn under(alloc: Global, conds: Items<Compare>, body: Items<Stmt>) -> Result<Items<Stmt>, AllocError>
-    ensures { IfOk result (λ x. x ≡ if_any conds body) }
+/// The body under this condition.
+fn tested_by(alloc: Global, cond: Cond, body: Items<Stmt>) -> Result<Items<Stmt>, AllocError>
+    ensures { IfOk result (λ x. x ≡ made.If cond body [] ∷ []) }
 {
+    let other = Items::new(alloc);
+    one(alloc, Stmt::If { cond, body, other })
+}
+
+/// The body under these conditions, if there are any.
+#[tactic(auto, using(crate::proofs::BlockSteps::under_one, crate::proofs::BlockSteps::under_more))]
+fn under(alloc: Global, conds: Items<Cond>, body: Items<Stmt>) -> Result<Items<Stmt>, AllocError>
+    ensures { IfOk result (λ x. x ≡ under_all conds body) }
+{
+    let mut conds = conds;
+    let Some(last) = conds.pop() else {
+        return Ok(body);
+    };
     if conds.as_slice().is_empty() {
-        Ok(body)
-    } else {
-        one(alloc, Stmt::If { conds, body })
+        return tested_by(alloc, last, body);
     }
+    conds.push(last)?;
+    tested_by(alloc, Cond::All(conds), body)
 }
 
 /// That the iterator with this name lies within a loop's bounds.
@@ -51,11 +66,11 @@ fn bounds(
     low: &Ix,
     rel: Rel,
     high: &Ix,
-) -> Result<Items<Compare>, AllocError>
+) -> Result<Items<Cond>, AllocError>
     requires few { more ≤ 1024 }
     requires low_seen { in_sight low.now ≡ true }
     requires high_seen { in_sight high.now ≡ true }
-    ensures { IfOk result (λ x. x ≡ loop_tests first more from (Loop [] low.now rel high.now)) }
+    ensures { IfOk result (λ x. x ≡ conditions (loop_tests first more from low.now rel high.now)) }
 {
     let low = moved_ix(alloc, first, more, low)?;
     let high = moved_ix(alloc, first, more, high)?;
@@ -64,17 +79,19 @@ fn bounds(
     Ok(conds)
 }
 
-/// The tests of a loop or an `if` of the source.
-fn tests_of_frame(
+/// The body under a loop or a condition of the source.
+#[tactic(auto, using(crate::proofs::BlockSteps::under_bounds, crate::proofs::BlockSteps::denied_sight))]
+fn under_frame(
     alloc: Global,
     first: u32,
     more: u32,
     from: u32,
     frame: &Frame<'_>,
-) -> Result<Items<Compare>, AllocError>
+    body: Items<Stmt>,
+) -> Result<Items<Stmt>, AllocError>
     requires few { more ≤ 1024 }
     requires seen { round_in_sight (seen frame.now) ≡ true }
-    ensures { IfOk result (λ x. x ≡ loop_tests first more from (seen frame.now)) }
+    ensures { IfOk result (λ x. x ≡ under_round first more from (seen frame.now) body) }
 {
     match frame {
         Frame::Loop {
@@ -82,8 +99,14 @@ fn tests_of_frame(
             low,
             rel,
             high,
-        } => bounds(alloc, first, more, from, low, *rel, high),
-        Frame::Test(conds) => moved_tests(alloc, first, more, conds),
+        } => {
+            let conds = bounds(alloc, first, more, from, low, *rel, high)?;
+            under(alloc, conds, body)
+        }
+        Frame::Test { cond, is_denied } => {
+            let cond = moved_cond(alloc, first, more, cond, *is_denied)?;
+            tested_by(alloc, cond, body)
+        }
     }
 }
 
@@ -99,7 +122,10 @@ fn behind(from: u32, frame: &Frame<'_>) -> u32
             rel: _,
             high: _,
         } => from + 1,
-        Frame::Test(_) => from,
+        Frame::Test {
+            cond: _,
+            is_denied: _,
+        } => from,
     }
 }
 
@@ -121,10 +147,9 @@ fn under_frames(
     match frames {
         [] => Ok(body),
         [frame, rest @ ..] => {
-            let conds = tests_of_frame(alloc, first, more, from, frame)?;
             let next = behind(from, frame);
             let inner = under_frames(alloc, first, more, next, rest, body)?;
-            under(alloc, conds, inner)
+            under_frame(alloc, first, more, from, frame, inner)
         }
     }
 }
@@ -168,7 +193,10 @@ fn add_locals(
     match frames {
         [] => Ok(made),
         [frame, rest @ ..] => match frame {
-            Frame::Test(_) => add_locals(alloc, first, rest, inverse, made),
+            Frame::Test {
+                cond: _,
+                is_denied: _,
+            } => add_locals(alloc, first, rest, inverse, made),
             Frame::Loop {
                 iter,
                 low: _,

@@ -1,63 +1,90 @@
 //! Conditions, values and assignments of a source where more names stand in sight.
-ghost use Rattle.std.specs.Prelude.{◌≡◌, ◌≤◌, ◌++◌, map, IfOk, true, ◌&&◌};
+ghost use Rattle.std.specs.Prelude.{◌≡◌, ◌≤◌, ◌++◌, map, IfOk, true};
 ghost use Rattle.affc_ast.specs.declared.tree.Val.TheVariants as values;
-ghost use Rattle.affc_loops.specs.Trees.{moved, moved_compare, moved_value};
-ghost use Rattle.affc_scan.specs.InSight.{in_sight, all_in_sight, tests_in_sight, value_in_sight};
+ghost use Rattle.affc_ast.specs.Fits.{all_true};
+ghost use Rattle.affc_loops.specs.Trees.{moved, moved_value};
+ghost use Rattle.affc_loops.specs.Trees as trees;
+ghost use Rattle.affc_nest.specs.Frames.{denied_if};
+ghost use Rattle.affc_scan.specs.InSight.{all_in_sight, cond_in_sight, value_in_sight};
+ghost use Rattle.affc_scan.specs.Conditions.{joined_as, moved_each};
 
 use crate::trees::moved_ix;
-use affc_ast::tree::{Compare, Ix, Op, Val};
+use affc_ast::tree::{Cond, Ix, Op, Val};
 use affc_ast::{Boxed, Items};
+use affc_nest::relation;
 use std::alloc::{AllocError, Global};
 
-fn moved_one(alloc: Global, first: u32, more: u32, c: &Compare) -> Result<Compare, AllocError>
-    requires few { more ≤ 1024 }
-    requires seen { in_sight c.now.left && in_sight c.now.right ≡ true }
-    ensures { IfOk result (λ x. x ≡ moved_compare first more c.now) }
+/// Conditions joined by `||` where that is so, and else by `&&`.
+fn joined(conds: Items<Cond>, is_any: bool) -> Cond
+    ensures { result ≡ joined_as is_any conds }
 {
-    let left = moved_ix(alloc, first, more, &c.left)?;
-    let right = moved_ix(alloc, first, more, &c.right)?;
-    Ok(Compare {
-        rel: c.rel,
-        left,
-        right,
-    })
+    if is_any {
+        Cond::Any(conds)
+    } else {
+        Cond::All(conds)
+    }
 }
 
-/// Adds conditions.
-#[tactic(auto, using(crate::proofs::MovedSteps::one_more_test))]
-fn add_tests(
+/// The condition, or its denial, where so many more names stand behind the first ones.
+#[cycle(conds)]
+#[tactic(auto, using(crate::proofs::MovedSteps::compare_moved, crate::proofs::MovedSteps::all_moved, crate::proofs::MovedSteps::any_moved, crate::proofs::MovedSteps::remainder_moved, crate::proofs::MovedSteps::all_seen, crate::proofs::MovedSteps::any_seen, crate::proofs::MovedSteps::compare_seen, crate::proofs::MovedSteps::remainder_seen))]
+pub(crate) fn moved_cond(
     alloc: Global,
     first: u32,
     more: u32,
-    conds: &[Compare],
-    made: Items<Compare>,
-) -> Result<Items<Compare>, AllocError>
+    cond: &Cond,
+    is_denied: bool,
+) -> Result<Cond, AllocError>
     requires few { more ≤ 1024 }
-    requires seen { tests_in_sight conds.now ≡ true }
-    ensures { IfOk result (λ x. x ≡ made ++ map (moved_compare first more) conds.now) }
+    requires seen { cond_in_sight cond.now ≡ true }
+    ensures { IfOk result (λ x. x ≡ trees.moved_cond first more (denied_if is_denied cond.now)) }
 {
-    let mut made = made;
-    match conds {
-        [] => Ok(made),
-        [c, rest @ ..] => {
-            made.push(moved_one(alloc, first, more, c)?)?;
-            add_tests(alloc, first, more, rest, made)
+    match cond {
+        Cond::Compare { rel, left, right } => {
+            let left = moved_ix(alloc, first, more, left)?;
+            let right = moved_ix(alloc, first, more, right)?;
+            let rel = relation(*rel, is_denied);
+            Ok(Cond::Compare { rel, left, right })
+        }
+        Cond::All(entries) => {
+            let entries = moved_conds(alloc, first, more, entries.as_slice(), is_denied)?;
+            Ok(joined(entries, is_denied))
+        }
+        Cond::Any(entries) => {
+            let entries = moved_conds(alloc, first, more, entries.as_slice(), is_denied)?;
+            Ok(joined(entries, !is_denied))
+        }
+        Cond::Divides { value, by, yes } => {
+            let value = moved_ix(alloc, first, more, value)?;
+            let yes = if is_denied { !*yes } else { *yes };
+            Ok(Cond::Divides {
+                value,
+                by: *by,
+                yes,
+            })
         }
     }
 }
 
-/// The conditions where so many more names stand behind the first ones.
-pub(crate) fn moved_tests(
+/// The same of conditions one after the other.
+#[cycle(conds)]
+#[tactic(auto, using(crate::proofs::MovedSteps::one_more_cond, crate::proofs::MovedSteps::first_seen, crate::proofs::MovedSteps::rest_seen))]
+fn moved_conds(
     alloc: Global,
     first: u32,
     more: u32,
-    conds: &[Compare],
-) -> Result<Items<Compare>, AllocError>
+    conds: &[Cond],
+    is_denied: bool,
+) -> Result<Items<Cond>, AllocError>
     requires few { more ≤ 1024 }
-    requires seen { tests_in_sight conds.now ≡ true }
-    ensures { IfOk result (λ x. x ≡ map (moved_compare first more) conds.now) }
+    requires seen { all_true (map cond_in_sight conds.now) ≡ true }
+    ensures { IfOk result (λ x. x ≡ moved_each first more is_denied conds.now) }
 {
-    add_tests(alloc, first, more, conds, Items::new(alloc))
+    let mut made = Items::new(alloc);
+    for cond in conds {
+        made.push(moved_cond(alloc, first, more, cond, is_denied)?)?;
+    }
+    Ok(made)
 }
 
 /// Adds expressions.

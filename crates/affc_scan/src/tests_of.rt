@@ -1,13 +1,15 @@
 //! The locals and tests of a statement's block.
 ghost use Rattle.std.specs.Prelude.{◌≡◌, ◌≤◌, ◌+◌, ◌++◌, [], ◌∷◌, length, IfOk, OnOk};
 ghost use Rattle.std.specs.List.{All};
+ghost use Rattle.affc_ast.specs.declared.tree.Cond.TheVariants.{Compare};
 ghost use Rattle.affc_ast.specs.declared.tree.Rel.TheVariants.{LessEqual};
 ghost use Rattle.affc_loops.specs.Loops as specs;
 ghost use Rattle.affc_loops.specs.Trees.{name_at};
 ghost use Rattle.affc_loops.specs.Limits.{IsSlight, IsSmall};
+ghost use Rattle.affc_scan.specs.Conditions.{conditions};
 
 use affc_ast::Items;
-use affc_ast::tree::{Compare, Ix, NameId, Rel};
+use affc_ast::tree::{Cond, Ix, NameId, Rel};
 use affc_loops::terms::{form_ix, number};
 use affc_rows::Form;
 use std::alloc::{AllocError, Global};
@@ -18,17 +20,17 @@ pub(crate) fn add_between(
     name: u32,
     rel: Rel,
     high: Ix,
-    out: &mut Items<Compare>,
+    out: &mut Items<Cond>,
 ) -> Result<(), AllocError>
-    ensures { OnOk result (out.new ≡ out.old ++ record { rel = LessEqual; left = low; right = name_at name } ∷ record { rel = rel; left = name_at name; right = high } ∷ []) }
+    ensures { OnOk result (out.new ≡ out.old ++ Compare LessEqual low (name_at name) ∷ Compare rel (name_at name) high ∷ []) }
 {
     let name = NameId(name);
-    out.push(Compare {
+    out.push(Cond::Compare {
         rel: Rel::LessEqual,
         left: low,
         right: Ix::Name(name),
     })?;
-    out.push(Compare {
+    out.push(Cond::Compare {
         rel,
         left: Ix::Name(name),
         right: high,
@@ -41,10 +43,10 @@ fn add_range(
     alloc: Global,
     name: u32,
     range: (i64, i64),
-    out: &mut Items<Compare>,
+    out: &mut Items<Cond>,
 ) -> Result<(), AllocError>
     requires { IsSmall range }
-    ensures { OnOk result (out.new ≡ out.old ++ specs.box_tests name (range ∷ [])) }
+    ensures { OnOk result (out.new ≡ out.old ++ conditions (specs.box_tests name (range ∷ []))) }
 {
     let low = number(alloc, range.0)?;
     let high = number(alloc, range.1)?;
@@ -55,13 +57,13 @@ fn add_range(
 #[tactic(auto, using(crate::proofs::TestSteps::one_more_range))]
 pub(crate) fn box_tests(
     alloc: Global,
-    made: Items<Compare>,
+    made: Items<Cond>,
     from: u32,
     ranges: &[(i64, i64)],
-) -> Result<Items<Compare>, AllocError>
+) -> Result<Items<Cond>, AllocError>
     requires small { All IsSmall ranges.now }
     requires seen { from + length ranges.now ≤ 1024 }
-    ensures { IfOk result (λ x. x ≡ made ++ specs.box_tests from ranges.now) }
+    ensures { IfOk result (λ x. x ≡ made ++ conditions (specs.box_tests from ranges.now)) }
 {
     let mut made = made;
     match ranges {
@@ -77,23 +79,23 @@ pub(crate) fn box_tests(
 #[tactic(auto, using(crate::proofs::TestSteps::one_more_time, crate::proofs::TestSteps::slight_is_modest))]
 pub(crate) fn time_tests(
     alloc: Global,
-    made: Items<Compare>,
+    made: Items<Cond>,
     first: u32,
     from: u32,
     component: u32,
     forms: &[Form],
-) -> Result<Items<Compare>, AllocError>
+) -> Result<Items<Cond>, AllocError>
     requires slight { All IsSlight forms.now }
     requires columns { All (λ f. (first ≤ length f.coefs) × (from + length f.coefs ≤ 1024)) forms.now }
     requires seen { component + length forms.now ≤ 1024 }
-    ensures { IfOk result (λ x. x ≡ made ++ specs.time_tests first from component forms.now) }
+    ensures { IfOk result (λ x. x ≡ made ++ conditions (specs.time_tests first from component forms.now)) }
 {
     let mut made = made;
     match forms {
         [] => Ok(made),
         [form, rest @ ..] => {
             let right = form_ix(alloc, first, from, form)?;
-            made.push(Compare {
+            made.push(Cond::Compare {
                 rel: Rel::Equal,
                 left: Ix::Name(NameId(component)),
                 right,

@@ -33,7 +33,7 @@ use Rattle.affc_loopends.specs.scanned.Scanned.{AreBoundsOfEach, all_loose}
 pub has_loops : NineHasLoops
 unfolding shape-the_row-Ix-0 hidden-the_row-Ix-0 shape-the_row-Val-0 hidden-the_row-Val-0 shape-the_row-Stmt-0 hidden-the_row-Stmt-0 hidden
 has_loops = record {
-  plain = record { few_numbers = lit≤ tt; ranges = refl; few_conditions = lit≤ tt; context = refl; arrays = refl; temps = refl; body = refl; full = refl; few_assignments = lit≤ tt };
+  plain = record { few_numbers = lit≤ tt; ranges = refl; few_conditions = lit≤ tt; context = refl; arrays = refl; temps = refl; body = refl; full = refl; tests = refl; few_assignments = lit≤ tt };
   near = refl;
   scheduled = (record { columns = refl; components = refl; iterators = refl }, tt);
   limits = refl;

@@ -109,7 +109,7 @@ no_lower upper h =
 
 abbrev low_step : Stmt-F Ix → Ix
 low_step (stmt.For iter low rel high body) = low
-low_step (stmt.If conds body) = lit 0
+low_step (stmt.If cond body other) = lit 0
 low_step (stmt.Assign op array subs value) = lit 0
 low_step (stmt.Block locals body) = lit 0
 

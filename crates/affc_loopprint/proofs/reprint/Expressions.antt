@@ -27,11 +27,11 @@ pub record IxFits (ss : List Symbol) (e : IxExtent) : Type 0 where
   pub lies : Lies deep ss
   pub within : Under 1 (2 * length ss) (3 * deep + 1) e.extent
 
-record TermFits (ss : List Symbol) (e : IxExtent) : Type 0 where
-  deep : ℕ
-  lies : Lies deep ss
+pub record TermFits (ss : List Symbol) (e : IxExtent) : Type 0 where
+  pub deep : ℕ
+  pub lies : Lies deep ss
   within : Under 1 (2 * length ss) (3 * deep + 1) e.extent
-  summand : Under 0 (2 * length ss) (3 * deep + 1) (placed RightOfSum e)
+  pub summand : Under 0 (2 * length ss) (3 * deep + 1) (placed RightOfSum e)
   left : Under 0 (2 * length ss) (3 * deep + 1) (placed LeftOfProduct e)
 
 record FactorFits (ss : List Symbol) (e : IxExtent) : Type 0 where
@@ -196,7 +196,7 @@ module _ (prelude : Bool) where
         ix_at _ (ix.Sub p.0 q.0) e _ (ok_of q.2) (sub_here (ix_step prelude) p.0 q.0)
         (sum_fits (ix_symbols a) (mark (codes "-")) (term_symbols b) _ _ (mark_lies _ refl refl refl) (ix_read scope at a p.0 p.1) (term_read scope (at + length (ix_symbols a) + 1) b q.0 q.1))
 
-    term_read : (scope : Scope) (at : ℕ) (a : TermText prelude) (e : Ix) → ix_tree scope (term_draft at a) ≡ Ok e → TermFits (term_symbols a) (ix_extent prelude e)
+    pub term_read : (scope : Scope) (at : ℕ) (a : TermText prelude) (e : Ix) → ix_tree scope (term_draft at a) ≡ Ok e → TermFits (term_symbols a) (ix_extent prelude e)
     term_read scope at (g.factor a) e h = factor_fits _ _ (factor_read scope at a e h)
     term_read scope at (g.times a b) e h =
         let p = both_ok (ix_tree scope (term_draft at a)) _ e h in

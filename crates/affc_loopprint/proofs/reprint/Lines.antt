@@ -8,13 +8,13 @@ use Rattle.affc_ast.specs.declared.tree.Param.{Param}
 use Rattle.affc_ast.specs.declared.tree.Param.TheVariants.{Number, Array}
 use Rattle.affc_ast.specs.declared.tree.Program.{Program}
 use Rattle.affc_grammar.specs.Grammar as g
-use Rattle.affc_grammar.specs.Grammar.{Name, Symbol, word, CondsText, PragmasText, LineText, conds_symbols, line_symbols, pragma_symbols, pragmas_symbols, int_symbols}
-use Rattle.affc_grammar.specs.Draft.{PragmaDraft, range, context, conds_draft, pragmas_draft, word_draft, int_value}
+use Rattle.affc_grammar.specs.Grammar.{Name, Symbol, word, PragmasText, LineText, cond_symbols, line_symbols, pragma_symbols, pragmas_symbols, int_symbols}
+use Rattle.affc_grammar.specs.Draft.{CompareDraft, PragmaDraft, range, context, cond_draft, comparisons_in, pragmas_draft, word_draft, int_value}
 use Rattle.affc_grammar.specs.Limits.{count_run, count_open}
 use Rattle.affc_grammar.specs.Names.{Scope, each, compare_tree, why_ranged, thing_of, pragmas_tree}
 use Rattle.affc_wellnamed.specs.declared.shape.Shape.{Shape}
 use Rattle.affc_wellnamed.specs.Known.{is_number, number_count}
-use Rattle.affc_wellnamed.specs.Shape.{nothing, conds_extent, both, line, end_tokens, range_line, ranges_behind, context_behind, lines_shape}
+use Rattle.affc_wellnamed.specs.Shape.{nothing, compare_extent, compares_behind, both, line, end_tokens, range_line, ranges_behind, context_behind, lines_shape}
 use Rattle.affc_cprint.proofs.Sees.{ok_of, both_ok, then_is, allowed_ok, allowed_is}
 use Rattle.affc_wellnamed.proofs.Counts.{highest, after, highest_both, Adds, Rises, run_more}
 use Rattle.affc_wellnamed.proofs.ShapeParts.{larger_is}
@@ -101,17 +101,18 @@ pragmas_read scope at (g.and_range ps w low high line) earlier xs h run deep =
     subst LinesFit (sym s.all)
     (lines_both s.front s.back (pragmas_read scope at ps earlier s.front s.front_ok (λ k f. run k (run_left k (pragmas_symbols ps) _ f)) (λ k f. deep k (deep_left k (pragmas_symbols ps) _ f)))
     (subst LinesFit (ok_of a.1) lines_none))
-pragmas_read scope at (g.and_context ps cs line) earlier xs h run deep =
+pragmas_read scope at (g.and_context ps c line) earlier xs h run deep =
     let next = at + length (pragmas_symbols ps) in
-    let s = pragmas_split scope earlier (pragmas_draft at ps) (context (next + 3) (conds_draft (next + 4) cs) ∷ []) xs h in
-    let p = both_ok (each (compare_tree scope) (conds_draft (next + 4) cs)) _ s.back s.back_ok in
-    let c = conds_read true scope (next + 4) cs p.0 p.1 in
-    let here : List Symbol = pragma_symbols (codes "context") ++ (conds_symbols cs ++ line_symbols line) in
-    let long = run (4 + length (conds_symbols cs)) (run_right _ (pragmas_symbols ps) here (context_run (conds_symbols cs) line c.lies.run)) in
-    let low = deep c.deep (deep_right c.deep (pragmas_symbols ps) here (deep_right c.deep (pragma_symbols (codes "context")) _ (deep_left c.deep (conds_symbols cs) (line_symbols line) (deep_row c.deep (conds_symbols cs) c.lies.brackets)))) in
+    let tests : List CompareDraft = comparisons_in (cond_draft (next + 4) c) in
+    let s = pragmas_split scope earlier (pragmas_draft at ps) (context (next + 3) tests ∷ []) xs h in
+    let p = both_ok (each (compare_tree scope) tests) _ s.back s.back_ok in
+    let f = conds_read true scope (next + 4) c p.0 p.1 in
+    let here : List Symbol = pragma_symbols (codes "context") ++ (cond_symbols c ++ line_symbols line) in
+    let long = run (4 + length (cond_symbols c)) (run_right _ (pragmas_symbols ps) here (context_run (cond_symbols c) line f.lies.run)) in
+    let low = deep f.deep (deep_right f.deep (pragmas_symbols ps) here (deep_right f.deep (pragma_symbols (codes "context")) _ (deep_left f.deep (cond_symbols c) (line_symbols line) (deep_row f.deep (cond_symbols c) f.lies.brackets)))) in
     subst LinesFit (sym s.all)
-    (lines_both s.front s.back (pragmas_read scope at ps earlier s.front s.front_ok (λ k f. run k (run_left k (pragmas_symbols ps) _ f)) (λ k f. deep k (deep_left k (pragmas_symbols ps) _ f)))
-    (subst LinesFit (sym (append-nil p.0) ∙ ok_of p.2) (one_line (conds_symbols cs) p.0 c long low)))
+    (lines_both s.front s.back (pragmas_read scope at ps earlier s.front s.front_ok (λ k q. run k (run_left k (pragmas_symbols ps) _ q)) (λ k q. deep k (deep_left k (pragmas_symbols ps) _ q)))
+    (subst LinesFit (sym (append-nil p.0) ∙ ok_of p.2) (one_line (cond_symbols c) p.0 f long low)))
 
 -- ---- What is printed
 
@@ -148,9 +149,9 @@ context_most : (a : Shape) (cs : List Compare) → AtMost (numbers_of a) (record
     → AtMost (numbers_of (context_behind a cs)) (record { tokens = 65424; run = 65379; depth = 193; items = 0 })
 context_most a [] p f h = let x = p.tokens in let y = p.run in let z = p.depth in record { tokens = omega (arith, x); run = omega (arith, y); depth = omega (arith, z); items = p.items }
 context_most a (c ∷ cs) p f h =
-    let u = conds_within true (c ∷ cs) (omega arith) in
+    let u = conds_within true c cs in
     let k = u.few in let s = u.shallow in let l = f.few in let d = f.shallow in
-    let b = line 4 (conds_extent true (c ∷ cs)) in
+    let b = line 4 (compares_behind true (compare_extent true c) cs) in
     let m = larger_is a.run b.run in let n = larger_is a.depth b.depth in
     let x = p.tokens in let y = p.run in let z = p.depth in let v = p.items in
     record { tokens = omega (arith, x, k, l, h); run = omega (arith, y, k, l, h, m); depth = omega (arith, z, s, d, n); items = omega (arith, v) }

@@ -5,7 +5,7 @@ use Rattle.affc_ast.specs.declared.tree.Decl.{Decl}
 use Rattle.affc_ast.specs.declared.tree.Param.{Param}
 use Rattle.affc_ast.specs.declared.tree.Program.{Program}
 use Rattle.affc_grammar.specs.Grammar as g
-use Rattle.affc_grammar.specs.Grammar.{Name, Symbol, word, mark, DimsText, CondsText, StmtsText, ParamText, ParamsText, NamesText, DeclsText, PragmasText, LineText, Text, ix_symbols, dim_symbols, dims_symbols, conds_symbols, stmts_symbols, const_symbols, param_symbols, params_symbols, names_symbols, decls_symbols, line_symbols, pragma_symbols, pragmas_symbols, int_symbols, function_symbols, include_symbols, prelude_symbols, text_symbols}
+use Rattle.affc_grammar.specs.Grammar.{Name, Symbol, word, mark, DimsText, StmtsText, ParamText, ParamsText, NamesText, DeclsText, PragmasText, LineText, Text, ix_symbols, dim_symbols, dims_symbols, stmts_symbols, const_symbols, param_symbols, params_symbols, names_symbols, decls_symbols, line_symbols, pragma_symbols, pragmas_symbols, int_symbols, function_symbols, include_symbols, prelude_symbols, text_symbols}
 use Rattle.affc_grammar.specs.Draft.{ParamDraft, DeclDraft, PragmaDraft, ix_draft, dims_draft, stmts_draft, array_role, param_draft, params_draft, temp_draft, names_draft, decls_draft, word_draft}
 use Rattle.affc_grammar.specs.Limits.{count_run, count_open}
 use Rattle.affc_grammar.specs.Names.{Scope, each, ix_tree, why_declared, decl_tree, range_of, param_tree, params_tree, with_param, with_array, temps_tree, stmts_tree}

@@ -3,7 +3,7 @@ use Rattle.std.proofs.Common.{◌≡◌, ℕ, ◌+◌, ◌≤◌, Bool, true, fa
 use Rattle.affc_ast.specs.declared.tree.Op.{Op}
 use Rattle.affc_ast.specs.declared.tree.Op.TheVariants as op
 use Rattle.affc_ast.specs.declared.tree.Rel.{Rel}
-use Rattle.affc_ast.specs.declared.tree.Rel.TheVariants.{Less, LessEqual, Greater, GreaterEqual, Equal}
+use Rattle.affc_ast.specs.declared.tree.Rel.TheVariants.{Less, LessEqual, Greater, GreaterEqual, Equal, NotEqual}
 use Rattle.std.specs.Prelude.{Option, Some, None}
 use Rattle.affc_grammar.specs.Grammar.{Name, Digits, Symbol, word, number, mark, rel_mark, op_mark, shift_mark, assign_mark}
 use Rattle.affc_grammar.specs.Limits.{count_run, count_open, is_separator, is_opening, is_closing}
@@ -68,6 +68,7 @@ rel_lies LessEqual = mark_lies _ refl refl refl
 rel_lies Greater = mark_lies _ refl refl refl
 rel_lies GreaterEqual = mark_lies _ refl refl refl
 rel_lies Equal = mark_lies _ refl refl refl
+rel_lies NotEqual = mark_lies _ refl refl refl
 
 pub op_lies : (o : Op) → IsInRow (mark (op_mark o))
 op_lies op.Mul = mark_lies _ refl refl refl

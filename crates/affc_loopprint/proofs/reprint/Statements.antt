@@ -4,19 +4,18 @@ use Rattle.std.proofs.Common.{◌≡◌, ℕ, ◌+◌, ◌*◌, ◌≤◌, Bool,
 use Rattle.std.specs.Prelude.{Option}
 use Rattle.std.proofs.lemmas.Bool.{false≢true}
 use Rattle.affc_ast.specs.declared.tree.Ix.{Ix}
-use Rattle.affc_ast.specs.declared.tree.Compare.{Compare}
 use Rattle.affc_ast.specs.declared.tree.Op.{Op}
 use Rattle.affc_ast.specs.declared.tree.Val.{Val}
 use Rattle.affc_ast.specs.declared.tree.Stmt.{Stmt}
 use Rattle.affc_ast.specs.declared.tree.Stmt.TheVariants as stmt
 use Rattle.affc_grammar.specs.Grammar as g
-use Rattle.affc_grammar.specs.Grammar.{Name, Symbol, word, mark, bound_mark, assign_mark, StepText, StmtsText, StmtText, SimpleText, BodyText, ix_symbols, dims_symbols, conds_symbols, value_symbols, step_symbols, stmts_symbols, stmt_symbols, simple_symbols, body_symbols}
-use Rattle.affc_grammar.specs.Draft.{ix_draft, dims_draft, conds_draft, value_draft, bound_rel, head_draft, head_length, stmts_draft, stmt_draft, simple_draft, body_draft}
+use Rattle.affc_grammar.specs.Grammar.{Name, Symbol, word, mark, bound_mark, assign_mark, StepText, StmtsText, StmtText, SimpleText, BodyText, ix_symbols, dims_symbols, cond_symbols, value_symbols, step_symbols, stmts_symbols, stmt_symbols, simple_symbols, body_symbols}
+use Rattle.affc_grammar.specs.Draft.{ix_draft, dims_draft, cond_draft, value_draft, bound_rel, head_draft, head_length, stmts_draft, stmt_draft, simple_draft, body_draft}
 use Rattle.affc_grammar.specs.Limits.{count_run, count_open, count_item, is_item, is_opening, is_closing}
-use Rattle.affc_grammar.specs.Names.{Scope, each, ix_tree, compare_tree, value_tree, array_named, why_declared, why_repeated, with_number, head_tree, stmts_tree, stmt_tree}
+use Rattle.affc_grammar.specs.Names.{Scope, each, ix_tree, cond_tree, value_tree, array_named, why_declared, why_repeated, with_number, head_tree, stmts_tree, stmt_tree}
 use Rattle.affc_wellnamed.specs.declared.shape.Extent.{Extent}
 use Rattle.affc_wellnamed.specs.declared.shape.Shape.{Shape}
-use Rattle.affc_wellnamed.specs.Shape.{nothing, beside, and_tokens, whole, dims_behind, conds_extent, at_level, val_extent, both, line, worded, closed, all_behind, for_head, if_head, assign_line, stmt_step, stmt_shape}
+use Rattle.affc_wellnamed.specs.Shape.{nothing, beside, and_tokens, whole, dims_behind, cond_extent, at_level, val_extent, both, line, worded, closed, all_behind, else_head, other_behind, for_head, assign_line, stmt_step, stmt_shape}
 use Rattle.affc_cprint.specs.declared.brackets.Level.TheVariants as level
 use Rattle.affc_cprint.proofs.Arms.{for_here, if_here, block_here}
 use Rattle.affc_cprint.proofs.Sees.{ok_of, both_ok, allowed_ok}
@@ -25,7 +24,8 @@ use Rattle.affc_wellnamed.proofs.ShapeParts.{larger_is}
 use Rattle.affc_wellnamed.proofs.ShapeStatements.{Numbers, joined, none}
 use Rattle.affc_loopprint.proofs.reprint.Rows.{IsInRow, lies_none, lies_more, word_lies, assign_lies}
 use Rattle.affc_loopprint.proofs.reprint.Expressions.{WholeFits, whole_read}
-use Rattle.affc_loopprint.proofs.reprint.Values.{RowFits, row_joined, row_plain, dims_read, CondsFit, conds_read, conds_within, all_tokens, all_deep, value_fits}
+use Rattle.affc_loopprint.proofs.reprint.Values.{RowFits, row_joined, row_plain, dims_read, value_fits}
+use Rattle.affc_loopprint.proofs.reprint.Conditions.{CondFits, cond_read}
 use Rattle.affc_loopprint.proofs.reprint.Nests.{nest, nest_stmt, nest_simple, nest_body}
 
 -- ---- What a text has at least
@@ -209,8 +209,12 @@ step_rises (g.up_by_one w) =
 abbrev loop_bound : (low high : Extent) → Numbers → Numbers
 loop_bound low high b = record { tokens = low.tokens + high.tokens + 14 + b.tokens; run = max (max (low.tokens + 5) (high.tokens + 2)) (max 3 b.run); depth = max (max low.depth high.depth) b.depth + 1; items = b.items + 1 }
 
-abbrev test_bound : List Compare → Numbers → Numbers
-test_bound cs b = record { tokens = all_tokens false cs + 4 + b.tokens; run = max (all_tokens false cs + 2) b.run; depth = max (all_deep false cs) b.depth + 1; items = b.items + 1 }
+abbrev test_bound : Extent → Numbers → Numbers
+test_bound e b = record { tokens = e.tokens + 9 + b.tokens; run = max (e.tokens + 3) b.run; depth = max e.depth b.depth + 1; items = b.items + 1 }
+
+-- what follows an `else`, with tokens round it that aren't counted with the condition
+abbrev else_bound : Numbers → Numbers
+else_bound b = record { tokens = b.tokens + 2; run = b.run; depth = b.depth; items = b.items }
 
 abbrev pub in_braces : Numbers → Numbers
 in_braces b = record { tokens = b.tokens + 2; run = b.run; depth = b.depth + 1; items = b.items }
@@ -286,7 +290,7 @@ module _ (iterator tested : Name) (strict : Bool) (ls hs bs : List Symbol) (step
 
 -- ---- Conditions
 
-module _ (cs : List Symbol) (ys : List Compare) (p : CondsFit false cs ys) (bs : List Symbol) (b : Numbers) (height : ℕ) (body : Holds bs b height) where
+module _ (cs : List Symbol) (e : Extent) (p : CondFits cs e) (bs : List Symbol) (b : Numbers) (height : ℕ) (body : Holds bs b height) where
   abbrev test_symbols : List Symbol
   test_symbols = word (codes "if") ∷ mark (codes "(") ∷ (cs ++ mark (codes ")") ∷ bs)
 
@@ -297,7 +301,7 @@ module _ (cs : List Symbol) (ys : List Compare) (p : CondsFit false cs ys) (bs :
       let second = run_tail _ (word (codes "if")) _ (run_tail _ (mark (codes "(")) _ (run_right _ cs _ (run_tail _ (mark (codes ")")) bs body.has_run))) in
       record { most = λ n. let x = first.most n in let y = second.most n in omega (arith, x, y) }
 
-  test_holds : Holds test_symbols (test_bound ys b) (height + 1)
+  test_holds : Holds test_symbols (test_bound e b) (height + 1)
   test_holds =
       let a = length-append cs (mark (codes ")") ∷ bs) in
       let f = p.few in let h = body.few in
@@ -315,6 +319,23 @@ module _ (cs : List Symbol) (ys : List Compare) (p : CondsFit false cs ys) (bs :
         shallow = omega (arith, i, k);
         counted = omega (arith, m);
       }
+
+-- two branches
+branches_hold : (bs os : List Symbol) (b o : Numbers) (h k : ℕ) → Holds bs b h → Holds os o k → Holds (bs ++ word (codes "else") ∷ os) (joined b (else_bound o)) (max h k)
+branches_hold bs os b o h k body other =
+    let few = other.few in let short = other.short in let shallow = other.shallow in let counted = other.counted in
+    holds_both bs (word (codes "else") ∷ os) b (else_bound o) h k body (record {
+      run = other.run;
+      deep = other.deep;
+      items = other.items;
+      has_run = run_tail _ (word (codes "else")) os other.has_run;
+      brackets = rises_more _ (word (codes "else")) os (word_lies (codes "else")).bracket other.brackets;
+      has_items = items_tail _ (word (codes "else")) os other.has_items;
+      few = omega (arith, few);
+      short = omega (arith, short);
+      shallow = omega (arith, shallow);
+      counted = omega (arith, counted);
+    })
 
 -- ---- Braces
 
@@ -349,16 +370,32 @@ for_most low high body =
     let x = larger_is all.run (line 0 nothing).run in let y = larger_is all.depth (line 0 nothing).depth in
     record { tokens = omega (arith, t); run = omega (arith, r, x); depth = omega (arith, d, y); items = omega (arith, i) }
 
-if_most : (cs : List Compare) → 1 ≤ length cs → (body : List Shape) → AtMost (numbers_of (worded (closed (all_behind (if_head false cs) body)))) (test_bound cs (total body))
-if_most cs some body =
-    let a = line 3 (conds_extent false cs) in
-    let u = conds_within false cs some in
-    let f = u.few in let g = u.shallow in
-    let all = all_behind (if_head false cs) body in
-    let p = behind_most (if_head false cs) (numbers_of a) body (most_self (numbers_of a)) in
+if_most : (e : Extent) (body : List Shape) → AtMost (numbers_of (worded (closed (all_behind (line 3 e) body)))) (test_bound e (total body))
+if_most e body =
+    let a = line 3 e in
+    let all = all_behind a body in
+    let p = behind_most a (numbers_of a) body (most_self (numbers_of a)) in
     let t = p.tokens in let r = p.run in let d = p.depth in let i = p.items in
     let x = larger_is all.run (line 0 nothing).run in let y = larger_is all.depth (line 0 nothing).depth in
-    record { tokens = omega (arith, t, f); run = omega (arith, r, x, f); depth = omega (arith, d, y, g); items = omega (arith, i) }
+    record { tokens = omega (arith, t); run = omega (arith, r, x); depth = omega (arith, d, y); items = omega (arith, i) }
+
+else_head_most : AtMost (numbers_of else_head) (record { tokens = 3; run = 1; depth = 0; items = 0 })
+else_head_most = record { tokens = omega arith; run = omega arith; depth = omega arith; items = omega arith }
+
+other_most : (e : Extent) (body other : List Shape) → AtMost (numbers_of (worded (closed (other_behind (all_behind (line 3 e) body) other)))) (test_bound e (joined (total body) (else_bound (total other))))
+other_most e body [] =
+    let p = if_most e body in
+    let t = p.tokens in let r = p.run in let d = p.depth in let i = p.items in
+    record { tokens = omega (arith, t); run = omega (arith, r); depth = omega (arith, d); items = omega (arith, i) }
+other_most e body (s ∷ ss) =
+    let a = line 3 e in
+    let front = both (all_behind a body) else_head in
+    let all = all_behind front (s ∷ ss) in
+    let before = joined (joined (numbers_of a) (total body)) (record { tokens = 3; run = 1; depth = 0; items = 0 }) in
+    let p = behind_most front before (s ∷ ss) (most_both (all_behind a body) else_head _ _ (behind_most a (numbers_of a) body (most_self (numbers_of a))) else_head_most) in
+    let t = p.tokens in let r = p.run in let d = p.depth in let i = p.items in
+    let x = larger_is all.run (line 0 nothing).run in let y = larger_is all.depth (line 0 nothing).depth in
+    record { tokens = omega (arith, t); run = omega (arith, r, x); depth = omega (arith, d, y); items = omega (arith, i) }
 
 block_most : (body : List Shape) → AtMost (numbers_of (closed (all_behind (line 0 nothing) body))) (in_braces (total body))
 block_most body =
@@ -438,7 +475,7 @@ mutual
       (holds_less _ _ _ (nest ss) (nest ss) (block_most (shapes q.0)) (omega arith) (braces_hold (stmts_symbols ss) (total (shapes q.0)) (nest ss) (stmts_read scope (at + 1 + 0) ss q.0 q.1)))
   stmt_read scope at (g.block (g.and_local k ls w a) ss) x h = absurd (false≢true k)
 
-  simple_read : (scope : Scope) (at : ℕ) (s : SimpleText false) (x : Stmt) → stmt_tree scope (simple_draft at s) ≡ Ok x → Holds (simple_symbols s) (numbers_of (stmt_shape false x)) (nest_simple s)
+  simple_read : {dangles : Bool} (scope : Scope) (at : ℕ) (s : SimpleText false dangles) (x : Stmt) → stmt_tree scope (simple_draft at s) ≡ Ok x → Holds (simple_symbols s) (numbers_of (stmt_shape false x)) (nest_simple s)
   simple_read scope at (g.for_loop iterator low tested strict high step body) x h =
       let p = both_ok (head_tree scope (head_draft at iterator low tested strict high step)) _ x h in
       let next = at + head_length low high step in
@@ -448,21 +485,35 @@ mutual
       (holds_less _ _ _ (nest_body body + 1) (nest_body body + 1) (for_most p.0.0 p.0.1 (shapes q.0)) (omega arith)
       (loop_holds iterator tested strict (ix_symbols low) (ix_symbols high) (body_symbols body) step (whole false p.0.0) (whole false p.0.1)
       (whole_read false scope (low_place at) low p.0.0 r.0) (whole_read false scope (high_place at low) high p.0.1 r.1) (total (shapes q.0)) (nest_body body) (body_read (with_number true scope iterator) next body q.0 q.1)))
-  simple_read scope at (g.if_all cs body) x h =
-      let next = at + 2 + length (conds_symbols cs) + 1 in
-      let p = both_ok (each (compare_tree scope) (conds_draft (at + 2) cs)) _ x h in
+  simple_read scope at (g.if_then c body) x h =
+      let next = at + 2 + length (cond_symbols c) + 1 in
+      let p = both_ok (cond_tree scope (cond_draft (at + 2) c)) _ x h in
       let q = both_ok (stmts_tree scope (body_draft next body)) _ x p.2 in
-      let c = conds_read false scope (at + 2) cs p.0 p.1 in
-      stmt_at _ (stmt.If p.0 q.0) x _ (nest_body body + 1) (ok_of q.2) (if_here (stmt_step false) p.0 q.0)
-      (holds_less _ _ _ (nest_body body + 1) (nest_body body + 1) (if_most p.0 c.some (shapes q.0)) (omega arith)
-      (test_holds (conds_symbols cs) p.0 c (body_symbols body) (total (shapes q.0)) (nest_body body) (body_read scope next body q.0 q.1)))
+      let e = (cond_extent false p.0).extent in
+      stmt_at _ (stmt.If p.0 q.0 []) x _ (nest_body body + 1) (ok_of q.2) (if_here (stmt_step false) p.0 q.0 [])
+      (holds_less _ _ _ (nest_body body + 1) (nest_body body + 1) (if_most e (shapes q.0)) (omega arith)
+      (test_holds (cond_symbols c) e (cond_read false scope (at + 2) c p.0 p.1) (body_symbols body) (total (shapes q.0)) (nest_body body) (body_read scope next body q.0 q.1)))
+  simple_read scope at (g.if_else c body other) x h =
+      let next = at + 2 + length (cond_symbols c) + 1 in
+      let last = next + length (body_symbols body) + 1 in
+      let height = max (nest_body body) (nest_body other) in
+      let p = both_ok (cond_tree scope (cond_draft (at + 2) c)) _ x h in
+      let q = both_ok (stmts_tree scope (body_draft next body)) _ x p.2 in
+      let r = both_ok (stmts_tree scope (body_draft last other)) _ x q.2 in
+      let e = (cond_extent false p.0).extent in
+      let bs = body_symbols body ++ word (codes "else") ∷ body_symbols other in
+      let b = joined (total (shapes q.0)) (else_bound (total (shapes r.0))) in
+      stmt_at _ (stmt.If p.0 q.0 r.0) x _ (height + 1) (ok_of r.2) (if_here (stmt_step false) p.0 q.0 r.0)
+      (holds_less _ _ (test_bound e b) (height + 1) (height + 1) (other_most e (shapes q.0) (shapes r.0)) (omega arith)
+      (test_holds (cond_symbols c) e (cond_read false scope (at + 2) c p.0 p.1) bs b height
+      (branches_hold (body_symbols body) (body_symbols other) (total (shapes q.0)) (total (shapes r.0)) (nest_body body) (nest_body other) (body_read scope next body q.0 q.1) (body_read scope last other r.0 r.1))))
   simple_read scope at (g.assign array subs o v) x h =
       let p = both_ok (array_named scope at array true (length (dims_draft (at + 1) subs))) _ x h in
       let q = both_ok (each (ix_tree scope) (dims_draft (at + 1) subs)) _ x p.2 in
       let r = both_ok (value_tree scope (value_draft (at + 1 + length (dims_symbols subs) + 1) v)) _ x q.2 in
       stmt_at _ (stmt.Assign o p.0 q.0 r.0) x _ 0 (ok_of r.2) refl (assign_fits scope at array subs o v q.0 r.0 q.1 r.1)
 
-  body_read : (scope : Scope) (at : ℕ) (b : BodyText false) (xs : List Stmt) → stmts_tree scope (body_draft at b) ≡ Ok xs → Holds (body_symbols b) (total (shapes xs)) (nest_body b)
+  body_read : {dangles : Bool} (scope : Scope) (at : ℕ) (b : BodyText false dangles) (xs : List Stmt) → stmts_tree scope (body_draft at b) ≡ Ok xs → Holds (body_symbols b) (total (shapes xs)) (nest_body b)
   body_read scope at (g.braces ss) xs h = body_in_braces (stmts_symbols ss) (total (shapes xs)) (nest ss) (stmts_read scope (at + 1) ss xs h)
   body_read scope at (g.bare s) xs h =
       let q = both_ok (stmt_tree scope (simple_draft at s)) _ xs h in

@@ -1,7 +1,7 @@
 -- Subscripts, conditions and values: what is printed has at most twice the tokens of a text that reads so, and at most three times its brackets.
 use Rattle.std.proofs.Common.{◌≡◌, ℕ, suc, ◌+◌, ◌*◌, ◌≤◌, Bool, false, nat_lt, max, List, [], ◌∷◌, ◌++◌, length, codes, Ok, refl, sym, ap, subst, ◌∙◌, arith, append_assoc, length-append}
 use Rattle.std.proofs.lemmas.List.{append-nil}
-use Rattle.std.proofs.lemmas.Bool.{le-ltb, eqb-true}
+use Rattle.std.proofs.lemmas.Bool.{le-ltb, eqb-true, false≢true}
 use Rattle.affc_lex.specs.Bytes.{decimal}
 use Rattle.affc_lex.specs.Pieces.{leading_digits}
 use Rattle.affc_ast.specs.declared.tree.Ix.{Ix}
@@ -11,16 +11,16 @@ use Rattle.affc_ast.specs.declared.tree.Compare.{Compare}
 use Rattle.affc_ast.specs.declared.tree.Val.{Val}
 use Rattle.affc_ast.specs.declared.tree.Val.TheVariants as val
 use Rattle.affc_grammar.specs.Grammar as g
-use Rattle.affc_grammar.specs.Grammar.{Symbol, word, number, mark, rel_mark, op_mark, shift_mark, level_of, IxText, DimsText, CondsText, CondText, ValueText, ix_symbols, dim_symbols, dims_symbols, conds_symbols, cond_symbols, value_symbols}
-use Rattle.affc_grammar.specs.Draft.{ix_draft, dims_draft, conds_draft, cond_draft, value_draft}
+use Rattle.affc_grammar.specs.Grammar.{Symbol, word, number, mark, rel_mark, op_mark, shift_mark, level_of, IxText, DimsText, CondText, AllText, PrimText, ValueText, ix_symbols, dim_symbols, dims_symbols, cond_symbols, all_symbols, prim_symbols, value_symbols}
+use Rattle.affc_grammar.specs.Draft.{ix_draft, dims_draft, conjuncts, cond_draft, all_draft, prim_draft, comparisons_of, comparisons_in, value_draft}
 use Rattle.affc_grammar.specs.Names.{Scope, each, ix_tree, compare_tree, value_tree, array_named}
 use Rattle.affc_cprint.specs.declared.brackets.Level.TheVariants as level
 use Rattle.affc_cprint.specs.Levels.{number_of, op_left, op_right}
 use Rattle.affc_wellnamed.specs.declared.shape.Extent.{Extent}
 use Rattle.affc_wellnamed.specs.declared.shape.ValExtent.{ValExtent}
-use Rattle.affc_wellnamed.specs.Shape.{beside, and_tokens, bracketed, bracketed_if, whole, dims_behind, compare_extent, compares_behind, conds_extent, at_level, binary, val_step, val_extent}
+use Rattle.affc_wellnamed.specs.Shape.{beside, and_tokens, bracketed, bracketed_if, whole, dims_behind, compare_extent, compares_behind, at_level, binary, val_step, val_extent}
 use Rattle.affc_cprint.proofs.Sees.{ok_of, both_ok}
-use Rattle.affc_cprint.proofs.ReadBackValues.{each_split, one_ok, not_here, bin_here, shift_here}
+use Rattle.affc_cprint.proofs.ReadBackValues.{each_split, one_ok, comparisons_append, not_here, bin_here, shift_here}
 use Rattle.affc_wellnamed.proofs.ShapeParts.{round, square}
 use Rattle.affc_loopprint.proofs.reprint.Rows.{Lies, IsInRow, lies_none, lies_more, lies_both, lies_joined, lies_within, word_lies, number_lies, mark_lies, rel_lies, op_lies, shift_lies, Under, under_more, under_both, under_tokens, under_brackets, under_brackets_if}
 use Rattle.affc_loopprint.proofs.reprint.Expressions.{WholeFits, whole_read}
@@ -119,13 +119,12 @@ compares_within prelude a t d (c ∷ cs) u =
     under_more 0 (t + e.tokens + 1 + all_tokens prelude cs) (max (max d e.depth) (all_deep prelude cs)) _ _ _ (compares_behind prelude a (c ∷ cs)) (omega arith) (omega arith)
     (compares_within prelude (and_tokens 1 (beside a e)) (t + e.tokens + 1) (max d e.depth) cs next)
 
--- of all together, of which there is at least one
-pub conds_within : (prelude : Bool) (cs : List Compare) → 1 ≤ length cs → Under 1 (all_tokens prelude cs) (all_deep prelude cs) (conds_extent prelude cs)
-conds_within prelude [] h = absurd (omega (arith, h))
-conds_within prelude (c ∷ cs) h =
+-- of all together
+pub conds_within : (prelude : Bool) (c : Compare) (cs : List Compare) → Under 1 (all_tokens prelude (c ∷ cs)) (all_deep prelude (c ∷ cs)) (compares_behind prelude (compare_extent prelude c) cs)
+conds_within prelude c cs =
     let e = compare_extent prelude c in
     let one : Under 0 e.tokens e.depth e = record { few = omega arith; shallow = omega arith } in
-    under_more 0 (e.tokens + all_tokens prelude cs) (max e.depth (all_deep prelude cs)) _ _ _ (conds_extent prelude (c ∷ cs)) (omega arith) (omega arith) (compares_within prelude e e.tokens e.depth cs one)
+    under_more 0 (e.tokens + all_tokens prelude cs) (max e.depth (all_deep prelude cs)) _ _ _ (compares_behind prelude e cs) (omega arith) (omega arith) (compares_within prelude e e.tokens e.depth cs one)
 
 pub record CondsFit (prelude : Bool) (ss : List Symbol) (cs : List Compare) : Type 0 where
   pub deep : ℕ
@@ -134,6 +133,7 @@ pub record CondsFit (prelude : Bool) (ss : List Symbol) (cs : List Compare) : Ty
   pub shallow : all_deep prelude cs ≤ 3 * deep + 1
   pub some : 1 ≤ length cs
 
+-- the comparisons of a `context` line
 module _ (prelude : Bool) (scope : Scope) where
   compared_fits : (xs : List Symbol) (s : Symbol) (ys : List Symbol) (c : Compare) → IsInRow s → WholeFits xs (whole prelude c.left) → WholeFits ys (whole prelude c.right) → CondsFit prelude (xs ++ s ∷ ys) (c ∷ [])
   compared_fits xs s ys c h p q =
@@ -143,31 +143,37 @@ module _ (prelude : Bool) (scope : Scope) where
       record { deep = max p.deep q.deep; lies = lies_joined p.deep q.deep xs s ys h p.lies q.lies; few = omega (arith, l, a); shallow = omega (arith, b); some = omega arith }
 
   mutual
-    pub conds_read : (at : ℕ) (cs : CondsText prelude) (ys : List Compare) → each (compare_tree scope) (conds_draft at cs) ≡ Ok ys → CondsFit prelude (conds_symbols cs) ys
-    conds_read at (g.cond c) ys h = cond_read at c ys h
-    conds_read at (g.and_cond cs c) ys h =
-        let next = at + length (conds_symbols cs) + 1 in
-        let p = each_split (compare_tree scope) (conds_draft at cs) (cond_draft next c) ys h in
-        let a = conds_read at cs p.front p.front_ok in
-        let b = cond_read next c p.back p.back_ok in
-        let l = length-append (conds_symbols cs) (mark (codes "&&") ∷ cond_symbols c) in
+    pub conds_read : (at : ℕ) (c : CondText prelude false) (ys : List Compare) → each (compare_tree scope) (comparisons_in (cond_draft at c)) ≡ Ok ys → CondsFit prelude (cond_symbols c) ys
+    conds_read at (g.all_of a) ys h = tests_read at a ys h
+    conds_read at (g.or_all on c a) ys h = absurd (false≢true on)
+
+    tests_read : (at : ℕ) (a : AllText prelude false) (ys : List Compare) → each (compare_tree scope) (comparisons_in (all_draft at a)) ≡ Ok ys → CondsFit prelude (all_symbols a) ys
+    tests_read at (g.prim q) ys h = test_read at q ys h
+    tests_read at (g.and_prim a q) ys h =
+        let next = at + length (all_symbols a) + 1 in
+        let left = conjuncts (all_draft at a) in
+        let right = conjuncts (prim_draft next q) in
+        let p = each_split (compare_tree scope) (comparisons_of left) (comparisons_of right) ys (sym (ap (each (compare_tree scope)) (comparisons_append left right)) ∙ h) in
+        let b = tests_read at a p.front p.front_ok in
+        let c = test_read next q p.back p.back_ok in
+        let l = length-append (all_symbols a) (mark (codes "&&") ∷ prim_symbols q) in
         let t = tokens_both prelude p.front p.back in let d = deep_both prelude p.front p.back in let n = length-append p.front p.back in
-        let f = a.few in let k = b.few in let i = a.shallow in let j = b.shallow in let s = a.some in
-        subst (CondsFit prelude (conds_symbols cs ++ mark (codes "&&") ∷ cond_symbols c)) (sym p.all) (record {
-          deep = max a.deep b.deep;
-          lies = lies_joined a.deep b.deep (conds_symbols cs) (mark (codes "&&")) (cond_symbols c) (mark_lies _ refl refl refl) a.lies b.lies;
+        let f = b.few in let k = c.few in let i = b.shallow in let j = c.shallow in let s = b.some in
+        subst (CondsFit prelude (all_symbols a ++ mark (codes "&&") ∷ prim_symbols q)) (sym p.all) (record {
+          deep = max b.deep c.deep;
+          lies = lies_joined b.deep c.deep (all_symbols a) (mark (codes "&&")) (prim_symbols q) (mark_lies _ refl refl refl) b.lies c.lies;
           few = omega (arith, l, t, f, k);
           shallow = omega (arith, d, i, j);
           some = omega (arith, n, s);
         })
 
-    cond_read : (at : ℕ) (c : CondText prelude) (ys : List Compare) → each (compare_tree scope) (cond_draft at c) ≡ Ok ys → CondsFit prelude (cond_symbols c) ys
-    cond_read at (g.all_of cs) ys h =
-        let a = conds_read (at + 1) cs ys h in
-        let l = length-append (conds_symbols cs) (mark (codes ")") ∷ []) in
+    test_read : (at : ℕ) (q : PrimText prelude false) (ys : List Compare) → each (compare_tree scope) (comparisons_in (prim_draft at q)) ≡ Ok ys → CondsFit prelude (prim_symbols q) ys
+    test_read at (g.enclosed c) ys h =
+        let a = conds_read (at + 1) c ys h in
+        let l = length-append (cond_symbols c) (mark (codes ")") ∷ []) in
         let f = a.few in let i = a.shallow in
-        record { deep = a.deep + 1; lies = lies_within a.deep (mark (codes "(")) (mark (codes ")")) (conds_symbols cs) round a.lies; few = omega (arith, l, f); shallow = omega (arith, i); some = a.some }
-    cond_read at (g.compared a rel b) ys h =
+        record { deep = a.deep + 1; lies = lies_within a.deep (mark (codes "(")) (mark (codes ")")) (cond_symbols c) round a.lies; few = omega (arith, l, f); shallow = omega (arith, i); some = a.some }
+    test_read at (g.compared a rel on b) ys h =
         let next = at + length (ix_symbols a) + 1 in
         let o = one_ok (compare_tree scope) (record { rel = rel; left = ix_draft at a; right = ix_draft next b }) ys h in
         let p = both_ok (ix_tree scope (ix_draft at a)) _ o.0 o.1 in
@@ -175,6 +181,7 @@ module _ (prelude : Bool) (scope : Scope) where
         let c : Compare = record { rel = rel; left = p.0; right = q.0 } in
         subst (CondsFit prelude (ix_symbols a ++ mark (rel_mark rel) ∷ ix_symbols b)) (sym (o.2 ∙ ap (λ z. z ∷ []) (sym (ok_of q.2))))
         (compared_fits (ix_symbols a) (mark (rel_mark rel)) (ix_symbols b) c (rel_lies rel) (whole_read prelude scope at a p.0 p.1) (whole_read prelude scope next b q.0 q.1))
+    test_read at (g.divisible on t by some so) ys h = absurd (false≢true on)
 
 -- ---- Values
 

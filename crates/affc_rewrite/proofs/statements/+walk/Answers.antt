@@ -17,8 +17,14 @@ statement-statements-requires t c =
 pub statement-statements-requires-in-If : goal.statement-statements-requires-in-If
 statement-statements-requires-in-If t c =
     let n : ℕ = c.args.names in
-    let q = if_plain n c.args.s.now c.in-If.conds c.in-If.body c.in-If.is c.requires.plain in
-    (search (rules, stmt_outs), (c.requires.walk, subst (λ ss. all_under (map (by_stmt accesses_step) ss) n ≡ true) (sym c.as_slice-in-If.ensures) q))
+    let q = if_plain n c.args.s.now c.in-If.cond c.in-If.body c.in-If.other c.in-If.is c.requires.plain in
+    (search (rules, stmt_outs), (c.requires.walk, subst (λ ss. all_under (map (by_stmt accesses_step) ss) n ≡ true) (sym c.as_slice-in-If.ensures) q.0))
+
+pub statement-statements-requires-in-If-2 : goal.statement-statements-requires-in-If-2
+statement-statements-requires-in-If-2 t c =
+    let n : ℕ = c.args.names in
+    let q = if_plain n c.args.s.now c.in-If.cond c.in-If.body c.in-If.other c.in-If.is c.requires.plain in
+    (search (rules, stmt_outs), (c.requires.walk, subst (λ ss. all_under (map (by_stmt accesses_step) ss) n ≡ true) (sym c.as_slice-in-If-2.ensures) q.1))
 
 pub statement-statements-requires-in-Block : goal.statement-statements-requires-in-Block
 statement-statements-requires-in-Block t c =
@@ -39,11 +45,11 @@ statement-returns-in_ok-body-in-For t c =
     (λ s e. for_made (at c.args.folding.now) c.args.names c.args.s.now s c.in-For.body c.as_slice.result.now c.in_ok-body-in-For.body c.as_slice.ensures c.in-For.iter c.in-For.low c.in-For.rel c.in-For.high
     c.in-For.is c.in_ok-body-in-For.ensures e) c.for_loop.ensures
 
-pub statement-returns-in_ok-body-in-If : goal.statement-returns-in_ok-body-in-If
-statement-returns-in_ok-body-in-If t c =
+pub statement-returns-in_ok-other-in-If : goal.statement-returns-in_ok-other-in-If
+statement-returns-in_ok-other-in-If t c =
     IfOk-weaker c.tested.result _ _
-    (λ s e. if_made (at c.args.folding.now) c.args.names c.args.s.now s c.in-If.body c.as_slice-in-If.result.now c.in_ok-body-in-If.body c.as_slice-in-If.ensures c.in-If.conds c.as_slice-in-If-2.result.now
-    c.in-If.is c.as_slice-in-If-2.ensures c.in_ok-body-in-If.ensures e) c.tested.ensures
+    (λ s e. if_made (at c.args.folding.now) c.args.names c.args.s.now s c.in-If.body c.as_slice-in-If.result.now c.in_ok-body-in-If.body c.as_slice-in-If.ensures c.in-If.cond c.in-If.other c.as_slice-in-If-2.result.now c.in_ok-other-in-If.other
+    c.in-If.is c.as_slice-in-If-2.ensures c.in_ok-body-in-If.ensures c.in_ok-other-in-If.ensures e) c.tested.ensures
 
 pub statement-returns-in_ok-body-in-Block : goal.statement-returns-in_ok-body-in-Block
 statement-returns-in_ok-body-in-Block t c =
