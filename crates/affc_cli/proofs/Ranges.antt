@@ -42,7 +42,9 @@ no_place which (p ∷ ps) e = absurd (cc)
 
 none_past : (limits : Limits) (c : TextDraft) → least (passed limits c) ≡ None → ranges_past c.pragmas ≡ []
 none_past limits c e =
-    let coefficients = no_append _ _ (none_passed (passed limits c) e) in
+    let pieces = no_append _ _ (none_passed (passed limits c) e) in
+    let divisors = no_append _ _ pieces.0 in
+    let coefficients = no_append _ _ divisors.0 in
     let literals = no_append _ _ coefficients.0 in
     let compared = no_append _ _ literals.0 in
     let contexts = no_append _ _ compared.0 in

@@ -9,7 +9,7 @@ use Rattle.affc_io.specs.declared.folder.ReadFault.TheVariants as read
 use Rattle.affc_io.specs.declared.folder.TheConstants.{LONGEST_READ}
 use Rattle.affc_driver.specs.Accounts.{IsShort}
 use Rattle.affc_words.specs.declared.words.Settings.{Settings}
-use Rattle.affc_driver.specs.Refusals.{IsSourceFault, IsPrinted}
+use Rattle.affc_driver.specs.Refusals.{IsSourceRefused, IsPrinted}
 use Rattle.affc_lines.specs.Meaning.{IsMeantLine}
 use Rattle.affc_cli.specs.Outside.{IsRead, answered}
 use Rattle.affc_cli.specs.Replay.{ReplayTextCause}
@@ -52,7 +52,7 @@ pub record IsFirstUnread (why : UnreadWhy) (front : List (List ℕ)) (name : Lis
 -- When a source with a schedule is refused so, by these settings. Want of memory may come at any time, and the end of a budget
 -- where there is one that is below the threshold.
 abbrev pub TextCause : (source : List ℕ) → (schedule : Option (List ℕ)) → (settings : Settings) → Refusal → Type 0
-TextCause source schedule settings (Source fault) = IsSourceFault source fault
+TextCause source schedule settings (Source fault) = IsSourceRefused source fault
 TextCause source schedule settings (Printed place) = IsPrinted source place
 TextCause source schedule settings (Schedule line) = IsSchedLine source schedule line
 TextCause source schedule settings (Meaning line) = IsMeantLine source schedule line
@@ -107,7 +107,7 @@ fold_file _ source schedule = source
 
 -- When the trees of a source are refused so. Want of memory may come at any time.
 abbrev pub FlowTextCause : (source : List ℕ) → Refusal → Type 0
-FlowTextCause source (Source fault) = IsSourceFault source fault
+FlowTextCause source (Source fault) = IsSourceRefused source fault
 FlowTextCause source (Printed place) = IsPrinted source place
 FlowTextCause source (Meaning line) = IsMeantLine source None line
 FlowTextCause source Memory = Unit {0}

@@ -1,7 +1,7 @@
 -- When a source, a schedule and a certificate are refused.
 use Rattle.std.specs.Prelude.{ℕ, List, Some}
 use Rattle.affc_accept.specs.declared.fault.AcceptFault.TheVariants as accept
-use Rattle.affc_driver.specs.Refusals.{IsSourceFault, IsPrinted}
+use Rattle.affc_driver.specs.Refusals.{IsSourceRefused, IsPrinted}
 use Rattle.affc_replay.specs.Refusals.{HasAcceptFault, HasRightText}
 use Rattle.affc_lines.specs.Meaning.{IsRangeLine}
 use Rattle.affc_lines.specs.Schedule.{IsSchedLine}
@@ -12,7 +12,7 @@ use Rattle.affc_lines.specs.declared.refusal.Refusal.TheVariants.{Source, Printe
 -- the certificate shows the rest.
 -- Want of memory may come at any time.
 abbrev pub ReplayTextCause : (source schedule certificate : List ℕ) → Refusal → Type 0
-ReplayTextCause source schedule certificate (Source fault) = IsSourceFault source fault
+ReplayTextCause source schedule certificate (Source fault) = IsSourceRefused source fault
 ReplayTextCause source schedule certificate (Printed place) = IsPrinted source place
 ReplayTextCause source schedule certificate (Schedule line) = IsSchedLine source (Some schedule) line
 ReplayTextCause source schedule certificate (Meaning line) = IsRangeLine source (Some schedule) line × HasRightText source schedule certificate

@@ -26,6 +26,7 @@ use Rattle.affc_split.specs.Budgets.{Account}
 use Rattle.affc_basis.specs.declared.basis.Basis.{Basis}
 use Rattle.affc_basis.specs.declared.fold.Fold.{Fold}
 use Rattle.affc_basis.specs.Folds.{KeepsLimits}
+use Rattle.affc_plain.specs.Laws.{IsBare}
 use Rattle.affc_foldloops.specs.Placed.{HasFoldedLoops}
 use Rattle.affc_rewrite.specs.Rewrite.{folded_program}
 use Rattle.affc_foldprint.specs.Laws.{FoldsWellNamed, FoldsCompile, FoldsRunTightly}
@@ -81,7 +82,7 @@ pub plan_limited : (program : Program) (schedule : Option (List ℕ)) (plan : Pl
 plan_limited program None plan h = ap (λ (x : Plan). within_limits x.schedule) h
 plan_limited program (Some text) plan h = is_limited text program plan h
 
-pub has_loops : (text : List ℕ) (schedule : Option (List ℕ)) (program : Program) (plan : Plan) → Reads text program → program.prelude ≡ false → StaysWithin program → HasPlan program schedule plan → HasLoops program plan.schedule
+pub has_loops : (text : List ℕ) (schedule : Option (List ℕ)) (program : Program) (plan : Plan) → Reads text program → IsBare program → StaysWithin program → HasPlan program schedule plan → HasLoops program plan.schedule
 has_loops text schedule program plan reads bare within planned = record {
   plain = reads_plain text program reads bare;
   near = within.near;
@@ -105,7 +106,7 @@ nothing_folded Answers program pairs bases budget whole = record {
 -- ---- Its loops with folds, which are well named
 
 pub has_folded : (Answers : List ℕ → ℕ → Type 0) (text : List ℕ) (schedule : Option (List ℕ)) (program : Program) (plan : Plan) (budget : Account) (folds : List (ArrayId × Fold)) (choices : List (ArrayId × Choice))
-    → Reads text program → program.prelude ≡ false → StaysWithin program → WrittenThroughout program → HasPlan program schedule plan
+    → Reads text program → IsBare program → StaysWithin program → WrittenThroughout program → HasPlan program schedule plan
     → LegalThroughout program plan.schedule → AreFoldsUnder Answers program (LivePair program plan.schedule) plan.folds budget folds choices → HasFoldedLoops program plan.schedule folds
 has_folded Answers text schedule program plan budget folds choices reads bare within written planned legal are = record {
   loops = has_loops text schedule program plan reads bare within planned;
@@ -117,7 +118,7 @@ has_folded Answers text schedule program plan budget folds choices reads bare wi
 
 module _ (named : FoldsWellNamed) (compiled : FoldsCompile) (Answers : List ℕ → ℕ → Type 0) where
   unfoldable pub folds_to : (text : List ℕ) (schedule : Option (List ℕ)) (program : Program) (plan : Plan) (budget : Account) (folds : List (ArrayId × Fold)) (choices : List (ArrayId × Choice)) (folded report : List ℕ)
-      → Reads text program → program.prelude ≡ false → StaysWithin program → AreDecided Answers program plan budget folds choices
+      → Reads text program → IsBare program → StaysWithin program → AreDecided Answers program plan budget folds choices
       → HasPlan program schedule plan → IsMadeOf program plan folds choices folded report → FoldsTo Answers text schedule budget folded report
   folds_to text schedule program plan budget folds choices folded report reads bare within decided planned made =
       let written : WrittenThroughout program = decided.written text reads bare in

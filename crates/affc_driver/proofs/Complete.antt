@@ -54,7 +54,8 @@ use Rattle.affc_driver.specs.Accounts.{free, reaches, IsUnlimited, IsShort}
 use Rattle.affc_driver.specs.Folds.{FoldsTo}
 use Rattle.affc_driver.specs.Laws.{IllegalShows, UnlimitedFoldsAll, NoneIsCheaper, AreFull, IsFoldable, FoldableIsFolded, FoldedIsFoldable, FoldableIsNotRefused, UnlimitedIsNotRefused, IsSound, FlowsAreSound, SoundIsNotRefused}
 use Rattle.affc_driver.specs.Plans.{HasPlan, WrittenThroughout}
-use Rattle.affc_driver.specs.Refusals.{IsSourceFault, IsPrinted, HasSchedFault, HasMeaningFault, HasUnwritten, IsIllegal}
+use Rattle.affc_ast.specs.Joined.{has_joined_tests}
+use Rattle.affc_driver.specs.Refusals.{IsSourceRefused, IsPrinted, HasSchedFault, HasMeaningFault, HasUnwritten, IsIllegal}
 use Rattle.affc_driver.specs.Reports.{report_text}
 use Rattle.affc_driver.specs.declared.refusal.Refusal.TheVariants.{Source, Printed, Schedule, Meaning, Unwritten, Illegal, Budget, Memory}
 use Rattle.affc_driver.proofs.Compiled.{within_never_stuck, named_is_written, printed_compiles, has_loops}
@@ -195,11 +196,12 @@ illegal_shows text schedule program plan p a b reads planned says =
 same_tree : (text : List ℕ) (s : IsSound text) (tree : Program) → Reads text tree → tree ≡ s.program
 same_tree text s tree reads = one_tree limits_of text tree s.program reads s.reads
 
-no_source_fault : (text : List ℕ) (fault : ParseFault) → IsSound text → IsSourceFault text fault → ⊥
-no_source_fault text fault s says = says.is_fault (fault_is_memory text fault s.program says.answers s.reads)
+no_source_fault : (text : List ℕ) (fault : ParseFault) → IsSound text → IsSourceRefused text fault → ⊥
+no_source_fault text fault s (inl says) = says.is_fault (fault_is_memory text fault s.program says.answers s.reads)
+no_source_fault text fault s (inr says) = true≢false (sym s.plain.tests ∙ sym (ap has_joined_tests (same_tree text s says.is.tree says.is.reads)) ∙ says.is.tests)
 
 not_printed : (text : List ℕ) (place : ℕ) → IsSound text → IsPrinted text place → ⊥
-not_printed text place s says = true≢false (sym says.with_prelude ∙ ap (λ (t : Program). t.prelude) (same_tree text s says.tree says.reads) ∙ s.plain)
+not_printed text place s says = true≢false (sym says.with_prelude ∙ ap (λ (t : Program). t.prelude) (same_tree text s says.tree says.reads) ∙ s.plain.prelude)
 
 no_meaning_fault : (text : List ℕ) (schedule : Option (List ℕ)) (fault : MeaningFault) → IsSound text → HasMeaningFault text schedule fault → ⊥
 no_meaning_fault text schedule fault s says =

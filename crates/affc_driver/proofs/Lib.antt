@@ -1,4 +1,5 @@
 pub mod WithPrelude
+pub mod WideMarks
 pub mod Ranked
 pub mod Roles
 pub mod Written

@@ -16,6 +16,7 @@ use Rattle.affc_trace.specs.Law.{IsIn}
 use Rattle.affc_domain.specs.Arrays.{declared_arrays}
 use Rattle.affc_domain.specs.Ranges.{number_ranges}
 use Rattle.affc_domain.proofs.Lists.{stands_in}
+use Rattle.affc_plain.specs.Laws.{IsBare}
 use Rattle.affc_nest.specs.declared.nest.ArrayInfo.{ArrayInfo}
 use Rattle.affc_nest.specs.Nests.{array_of, nest_of}
 use Rattle.affc_flow.specs.Questions.{is_temp, is_temporary_info, is_temporary}
@@ -68,9 +69,9 @@ own_roles prelude f qs before (a ∷ ds) h d (inr i) =
     let p = and_parts (temp_known (known_behind prelude f qs before) a) (temps_known prelude f qs (before ++ a ∷ []) ds) h in
     own_roles prelude f qs (before ++ a ∷ []) ds p.1 d i
 
-pub reads_roles : (text : List ℕ) (program : Program) → Reads text program → program.prelude ≡ false → HasRoles program
+pub reads_roles : (text : List ℕ) (program : Program) → Reads text program → IsBare program → HasRoles program
 reads_roles text program reads bare =
-    let k = (and_parts (program_known program) _ (well_named_is_kept program (reads_well_named text program reads bare))).0 in
+    let k = (and_parts (program_known program) _ (well_named_is_kept program (reads_well_named text program reads bare.prelude))).0 in
     let a = and_parts (is_function program.name) _ k in
     let b = and_parts _ _ a.1 in
     let c = and_parts (params_known program.prelude program.name [] program.params) _ b.1 in

@@ -3,6 +3,7 @@ use Rattle.std.specs.Prelude.{◌≡◌, ℕ, ℤ, false, List}
 use Rattle.affc_ast.specs.declared.tree.Program.{Program}
 use Rattle.affc_grammar.specs.Reads.{Reads}
 use Rattle.affc_trace.specs.Laws.{IsInContext}
+use Rattle.affc_plain.specs.Laws.{IsBare}
 use Rattle.affc_nest.specs.Nests.{nest_of}
 use Rattle.affc_bounds.specs.Faults.{StaysWithin}
 use Rattle.affc_schedtext.specs.Outline.{outline}
@@ -21,7 +22,7 @@ NameThroughout program trees = (p : List ℤ) → IsInContext program p → Name
 pub record FlowsTo (source text : List ℕ) : Type 0 where
   pub program : Program
   pub reads : Reads source program
-  pub plain : program.prelude ≡ false
+  pub plain : IsBare program
   pub within : StaysWithin program
   pub trees : List Tree
   pub named : NameThroughout program trees

@@ -24,6 +24,7 @@ use Rattle.affc_loopends.specs.scanned.Laws.{RunsTightly}
 use Rattle.affc_loopends.specs.scanned.Scanned.{Scans}
 use Rattle.affc_basis.specs.declared.fold.Fold.{Fold}
 use Rattle.affc_basis.specs.Folds.{fold_of}
+use Rattle.affc_plain.specs.Laws.{IsBare}
 use Rattle.affc_rewrite.specs.Rewrite.{folded_program}
 use Rattle.affc_weigh.specs.declared.choice.Choice.{Choice}
 use Rattle.affc_weigh.specs.Choices.{choice_of}
@@ -67,17 +68,17 @@ CompilesItself = (program : Program) → IsTrue (has_no_locals program) → Neve
 -- The program that a text without the prelude reads as is never stuck, where it stays within and each load of a temporary is
 -- written before.
 abbrev pub WithinNeverStuck : Type 0
-WithinNeverStuck = (text : List ℕ) (program : Program) → Reads text program → program.prelude ≡ false → StaysWithin program → WrittenThroughout program → NeverStuck program
+WithinNeverStuck = (text : List ℕ) (program : Program) → Reads text program → IsBare program → StaysWithin program → WrittenThroughout program → NeverStuck program
 
 -- Each is where trees name the sources of all loads, and of a load of a temporary always one.
 abbrev pub NamedIsWritten : Type 0
 NamedIsWritten = (text : List ℕ) (program : Program) (trees : List Tree)
-    → Reads text program → program.prelude ≡ false → StaysWithin program → NameThroughout program trees → WrittenThroughout program
+    → Reads text program → IsBare program → StaysWithin program → NameThroughout program trees → WrittenThroughout program
 
 -- So what is printed of the scanned loops of a legal schedule, with folds of the program under it, compiles the text.
 abbrev pub PrintedCompiles : (Answers : List ℕ → ℕ → Type 0) → Type 0
 PrintedCompiles Answers = (text : List ℕ) (schedule : Option (List ℕ)) (program : Program) (plan : Plan) (budget : Account) (folds : List (ArrayId × Fold)) (choices : List (ArrayId × Choice)) (s : Scanned)
-    → Reads text program → program.prelude ≡ false → StaysWithin program → WrittenThroughout program
+    → Reads text program → IsBare program → StaysWithin program → WrittenThroughout program
     → HasPlan program schedule plan → LegalThroughout program plan.schedule → AreFoldsUnder Answers program (LivePair program plan.schedule) plan.folds budget folds choices
     → Scans (folded_program program folds) plan.schedule s → FoldsTo Answers text schedule budget (printed_text s.program) (report_text program folds choices s.loose.items)
 
@@ -142,7 +143,7 @@ IllegalShows = (text : List ℕ) (schedule : Option (List ℕ)) (program : Progr
 pub record IsFoldable (text : List ℕ) (schedule : Option (List ℕ)) : Type 0 where
   pub program : Program
   pub reads : Reads text program
-  pub plain : program.prelude ≡ false
+  pub plain : IsBare program
   pub near : first_wide program ≡ None
   pub some : (p : List ℤ) × IsInContext program p
   pub never_stuck : NeverStuck program
@@ -179,7 +180,7 @@ UnlimitedIsNotRefused = (text : List ℕ) (schedule : Option (List ℕ)) (limit 
 pub record IsSound (text : List ℕ) : Type 0 where
   pub program : Program
   pub reads : Reads text program
-  pub plain : program.prelude ≡ false
+  pub plain : IsBare program
   pub near : first_wide program ≡ None
   pub some : (p : List ℤ) × IsInContext program p
   pub never_stuck : NeverStuck program

@@ -1,10 +1,13 @@
 -- Why a source with a schedule isn't compiled.
-use Rattle.std.specs.Prelude.{◌≡◌, ◌≢◌, ℕ, ℤ, true, false, List, Option, Some, None, Err, slice_get}
+use Rattle.std.specs.Prelude.{◌≡◌, ◌≢◌, ◌⊎◌, ◌||◌, ℕ, ℤ, Bool, true, false, if◌then◌else◌, List, [], ◌∷◌, length, codes, Option, Some, None, Err, slice_get}
+use Rattle.affc_lex.specs.Bytes.{same}
 use Rattle.affc_lex.specs.declared.token.Kind.TheVariants.{Prelude}
 use Rattle.affc_lex.specs.Lexes.{Lexeme, Lexes}
 use Rattle.affc_ast.specs.declared.tree.Instance.{Instance}
 use Rattle.affc_ast.specs.declared.tree.Program.{Program}
+use Rattle.affc_ast.specs.Joined.{has_joined_tests}
 use Rattle.affc_grammar.specs.Reads.{Reads}
+use Rattle.affc_plain.specs.Laws.{IsBare}
 use Rattle.affc_parse.specs.Answers.{Answers}
 use Rattle.affc_parse.specs.declared.fault.ParseFault.{ParseFault}
 use Rattle.affc_parse.specs.declared.fault.ParseFault.TheVariants as parse
@@ -27,6 +30,33 @@ pub record IsSourceFault (source : List ℕ) (fault : ParseFault) : Type 0 where
   pub answers : Answers source (Err fault)
   pub is_fault : fault ≢ parse.Memory
 
+-- whether a token is `else`, "||", "!=" or "%"
+abbrev pub is_wide_mark : List ℕ → Bool
+is_wide_mark bytes = same bytes (codes "else") || (same bytes (codes "||") || (same bytes (codes "!=") || same bytes (codes "%")))
+
+-- the place of the first such token, or the text's end where there is none
+abbrev pub first_wide_mark : List ℕ → List Lexeme → ℕ
+first_wide_mark text [] = length text
+first_wide_mark text (t ∷ ts) = if is_wide_mark t.bytes then t.start else first_wide_mark text ts
+
+-- the source reads as a program without the prelude that isn't compiled, since it has an `else`, or a condition that isn't comparisons
+-- joined by "&&"
+pub record ReadsWide (source : List ℕ) : Type 0 where
+  pub tree : Program
+  pub reads : Reads source tree
+  pub plain : tree.prelude ≡ false
+  pub tests : has_joined_tests tree ≡ false
+
+-- and it is refused at the first of its tokens that such a program may have and another needn't
+pub record IsWide (source : List ℕ) (fault : ParseFault) : Type 0 where
+  pub is : ReadsWide source
+  pub tokens : List Lexeme
+  pub lexes : Lexes source tokens
+  pub told : fault ≡ parse.Syntax (first_wide_mark source tokens)
+
+abbrev pub IsSourceRefused : (source : List ℕ) → ParseFault → Type 0
+IsSourceRefused source fault = IsSourceFault source fault ⊎ IsWide source fault
+
 -- the source reads as a program with the prelude, as printed texts may, and the prelude stands at the place
 pub record IsPrinted (source : List ℕ) (place : ℕ) : Type 0 where
   pub tree : Program
@@ -42,7 +72,7 @@ pub record IsPrinted (source : List ℕ) (place : ℕ) : Type 0 where
 
 -- When a source is read as no program so. Want of memory may come at any time.
 abbrev pub UnreadSays : (source : List ℕ) → Unread → Type 0
-UnreadSays source (unread.Source fault) = IsSourceFault source fault
+UnreadSays source (unread.Source fault) = IsSourceRefused source fault
 UnreadSays source (unread.Printed place) = IsPrinted source place
 UnreadSays source unread.Memory = Unit {0}
 
@@ -56,7 +86,7 @@ refusal_of unread.Memory = Memory
 pub record HasSchedFault (source : List ℕ) (schedule : Option (List ℕ)) (fault : SchedFault) : Type 0 where
   pub tree : Program
   pub reads : Reads source tree
-  pub plain : tree.prelude ≡ false
+  pub plain : IsBare tree
   pub text : List ℕ
   pub given : schedule ≡ Some text
   pub answers : plans.Answers text tree (Err fault)
@@ -66,7 +96,7 @@ pub record HasSchedFault (source : List ℕ) (schedule : Option (List ℕ)) (fau
 pub record IsPlanned (source : List ℕ) (schedule : Option (List ℕ)) : Type 0 where
   pub tree : Program
   pub reads : Reads source tree
-  pub plain : tree.prelude ≡ false
+  pub plain : IsBare tree
   pub plan : Plan
   pub planned : HasPlan tree schedule plan
 
@@ -91,7 +121,7 @@ pub record IsIllegal (source : List ℕ) (schedule : Option (List ℕ)) (p : Lis
 
 -- When a source with a schedule is refused so. Want of memory may come at any time, and the end of the budget where it is spent.
 abbrev pub RefusalSays : (source : List ℕ) (schedule : Option (List ℕ)) → Refusal → Type 0
-RefusalSays source schedule (Source fault) = IsSourceFault source fault
+RefusalSays source schedule (Source fault) = IsSourceRefused source fault
 RefusalSays source schedule (Printed place) = IsPrinted source place
 RefusalSays source schedule (Schedule fault) = HasSchedFault source schedule fault
 RefusalSays source schedule (Meaning fault) = HasMeaningFault source schedule fault
@@ -102,7 +132,7 @@ RefusalSays source schedule Memory = Unit {0}
 
 -- When the trees of a source are refused so: as its compilation is, up to its dataflow.
 abbrev pub FlowRefusalSays : (source : List ℕ) → Refusal → Type 0
-FlowRefusalSays source (Source fault) = IsSourceFault source fault
+FlowRefusalSays source (Source fault) = IsSourceRefused source fault
 FlowRefusalSays source (Printed place) = IsPrinted source place
 FlowRefusalSays source (Schedule fault) = ⊥
 FlowRefusalSays source (Meaning fault) = HasMeaningFault source None fault

@@ -1,11 +1,10 @@
 -- The arrays of each access, statement by statement.
-use Rattle.std.proofs.Common.{rules, arith, Vec, ◌≡◌, ℕ, ◌+◌, ◌<◌, ◌≤◌, List, [], ◌∷◌, ◌++◌, length, map, get_or, take, option_map, refl, sym, ap, subst, ◌∙◌, append_assoc}
+use Rattle.std.proofs.Common.{rules, arith, Vec, ◌≡◌, ℕ, ◌+◌, ◌<◌, ◌≤◌, List, [], ◌++◌, length, map, get_or, take, option_map, refl, sym, ap, subst, ◌∙◌, append_assoc}
 use Rattle.std.specs.declared.alloc.Global.{Global}
 use Rattle.std.specs.List.{flat_map}
-use Rattle.std.proofs.lemmas.List.{map-append, take_all, length-map}
+use Rattle.std.proofs.lemmas.List.{map-append, length-map}
 use Rattle.std.proofs.lemmas.Option.{slice_get_read, slice_get-map, get_or_from_slice_get}
-use Rattle.std.proofs.lemmas.List.Concat.{flat_map-cons}
-use Rattle.affc_ast.specs.declared.tree.Compare.{Compare}
+use Rattle.affc_ast.specs.declared.tree.Cond.{Cond}
 use Rattle.affc_ast.specs.declared.tree.Ix.{Ix}
 use Rattle.affc_ast.specs.declared.tree.Local.{Local}
 use Rattle.affc_ast.specs.declared.tree.Rel.{Rel}
@@ -14,57 +13,57 @@ use Rattle.affc_ast.specs.declared.tree.Op.{Op}
 use Rattle.affc_ast.specs.declared.tree.Val.{Val, Bin, out-Val, map-Val, the_lemmas as val_lemmas}
 use Rattle.affc_ast.specs.declared.tree.Val.TheOpen as layer_v
 use Rattle.affc_ast.proofs.Outs.{by_val_out}
+use Rattle.affc_ast.proofs.Steps.{for_here, if_here, block_here}
 use Rattle.affc_ast.specs.Recursion.{by_stmt}
 use Rattle.affc_ast.specs.declared.tree.Program.{Program}
-use Rattle.affc_ast.specs.Trace.{Assignment, assignments_step, joined, assignments}
+use Rattle.affc_ast.specs.Trace.{assignments_step, assignments}
 use Rattle.affc_interp.specs.Arrays.{values_in}
 use Rattle.affc_lines.specs.Stuck.{loaded_step, arrays_loaded, arrays_accessed, array_of}
-use Rattle.affc_lines.proofs.Layers.{by_for, by_if, by_block, flat_map-further, get_past}
+use Rattle.affc_lines.proofs.Layers.{of_body, flat_map-further, get_past}
 
 -- those of the assignments in a statement
 abbrev pub accessed_in : Stmt → List (List ℕ)
 accessed_in s = map arrays_accessed (by_stmt assignments_step s)
 
+-- those of the assignments in statements one after the other
+abbrev pub accessed_among : List Stmt → List (List ℕ)
+accessed_among stmts = map arrays_accessed (flat_map (by_stmt assignments_step) stmts)
+
 -- one statement more
 pub further : (items : List Stmt) (i : ℕ) (x : Stmt) (start each next : List (List ℕ)) → i < length items → x ≡ get_or items i x
-    → each ≡ start ++ flat_map accessed_in (take i items) → next ≡ each ++ accessed_in x
-    → next ≡ start ++ flat_map accessed_in (take (i + 1) items)
+    → each ≡ start ++ accessed_among (take i items) → next ≡ each ++ accessed_in x
+    → next ≡ start ++ accessed_among (take (i + 1) items)
 further items i x start each next below item so_far is =
-    is ∙ ap (λ l. l ++ accessed_in x) so_far ∙ append_assoc start (flat_map accessed_in (take i items)) (accessed_in x)
-    ∙ ap (λ l. start ++ l) (sym (flat_map-further accessed_in items i x below item))
-
--- the assignments of a body are those of its statements
-pub of_body : (body : List Stmt) → flat_map accessed_in body ≡ map arrays_accessed (joined (map (by_stmt assignments_step) body))
-of_body [] = refl
-of_body (x ∷ xs) =
-    flat_map-cons accessed_in x xs ∙ ap (λ l. accessed_in x ++ l) (of_body xs)
-    ∙ sym (ap (map arrays_accessed) (flat_map-cons (λ (l : List Assignment). l) (by_stmt assignments_step x) (map (by_stmt assignments_step) xs))
-    ∙ map-append arrays_accessed (by_stmt assignments_step x) (joined (map (by_stmt assignments_step) xs)))
-
-pub of_program : (body : List Stmt) → flat_map accessed_in body ≡ map arrays_accessed (flat_map (by_stmt assignments_step) body)
-of_program [] = refl
-of_program (x ∷ xs) =
-    flat_map-cons accessed_in x xs ∙ ap (λ l. accessed_in x ++ l) (of_program xs)
-    ∙ sym (ap (map arrays_accessed) (flat_map-cons (by_stmt assignments_step) x xs)
-    ∙ map-append arrays_accessed (by_stmt assignments_step x) (flat_map (by_stmt assignments_step) xs))
+    is ∙ ap (λ l. l ++ accessed_in x) so_far ∙ append_assoc start (accessed_among (take i items)) (accessed_in x)
+    ∙ ap (λ l. start ++ l) (sym (map-append arrays_accessed (flat_map (by_stmt assignments_step) (take i items)) (by_stmt assignments_step x))
+    ∙ ap (map arrays_accessed) (sym (flat_map-further (by_stmt assignments_step) items i x below item)))
 
 -- ---- Statements with a body
 
 -- what stands in the statement is what stands in its body
-pub in_for : (s : Stmt) (iter : List ℕ) (low : Ix) (rel : Rel) (high : Ix) (body slice : List Stmt) → s ≡ For iter low rel high body → slice ≡ body → flat_map accessed_in slice ≡ accessed_in s
+pub in_for : (s : Stmt) (iter : List ℕ) (low : Ix) (rel : Rel) (high : Ix) (body slice : List Stmt) → s ≡ For iter low rel high body → slice ≡ body → accessed_among slice ≡ accessed_in s
 in_for s iter low rel high body slice e b =
-    of_body slice ∙ ap (λ l. map arrays_accessed (joined (map (by_stmt assignments_step) l))) b
-    ∙ sym (ap accessed_in e ∙ ap (map arrays_accessed) (by_for assignments_step iter low rel high body))
+    ap (map arrays_accessed) (sym (ap (by_stmt assignments_step) e ∙ for_here assignments_step iter low rel high body ∙ of_body assignments_step body slice b))
 
-pub in_if : (s : Stmt) (conds : List Compare) (body slice : List Stmt) → s ≡ If conds body → slice ≡ body → flat_map accessed_in slice ≡ accessed_in s
-in_if s conds body slice e b =
-    of_body slice ∙ ap (λ l. map arrays_accessed (joined (map (by_stmt assignments_step) l))) b
-    ∙ sym (ap accessed_in e ∙ ap (map arrays_accessed) (by_if assignments_step conds body))
+-- and in the other body behind it
+pub in_if : (s : Stmt) (cond : Cond) (body slice other slice' : List Stmt) → s ≡ If cond body other → slice ≡ body → slice' ≡ other → accessed_among slice ++ accessed_among slice' ≡ accessed_in s
+in_if s cond body slice other slice' e b o =
+    sym (map-append arrays_accessed (flat_map (by_stmt assignments_step) slice) (flat_map (by_stmt assignments_step) slice'))
+    ∙ ap (map arrays_accessed) (sym (ap (by_stmt assignments_step) e ∙ if_here assignments_step cond body other ∙ (λ i. of_body assignments_step body slice b i ++ of_body assignments_step other slice' o i)))
 
-pub in_block : (s : Stmt) (locals : List Local) (body slice : List Stmt) → s ≡ Block locals body → slice ≡ body → flat_map accessed_in slice ≡ accessed_in s
+pub in_block : (s : Stmt) (locals : List Local) (body slice : List Stmt) → s ≡ Block locals body → slice ≡ body → accessed_among slice ≡ accessed_in s
 in_block s locals body slice e b =
-    of_body slice ∙ ap (λ l. map arrays_accessed (joined (map (by_stmt assignments_step) l))) b
-    ∙ sym (ap accessed_in e ∙ ap (map arrays_accessed) (by_block assignments_step locals body))
+    ap (map arrays_accessed) (sym (ap (by_stmt assignments_step) e ∙ block_here assignments_step locals body ∙ of_body assignments_step body slice b))
+
+-- one body
+pub one_body : (s : Stmt) (slice : List Stmt) (old new : List (List ℕ)) → accessed_among slice ≡ accessed_in s → new ≡ old ++ accessed_among slice → new ≡ old ++ accessed_in s
+one_body s slice old new same is = is ∙ ap (λ l. old ++ l) same
+
+-- both bodies, the one behind the other
+pub both_bodies : (s : Stmt) (cond : Cond) (body slice other slice' : List Stmt) (old mid new : List (List ℕ)) → s ≡ If cond body other → slice ≡ body → slice' ≡ other
+    → mid ≡ old ++ accessed_among slice → new ≡ mid ++ accessed_among slice' → new ≡ old ++ accessed_in s
+both_bodies s cond body slice other slice' old mid new e b o first second =
+    second ∙ ap (λ l. l ++ accessed_among slice') first ∙ append_assoc old (accessed_among slice) (accessed_among slice') ∙ ap (λ l. old ++ l) (in_if s cond body slice other slice' e b o)
 
 -- ---- Values with two sides
 
@@ -81,11 +80,11 @@ both_loaded v op a b a' b' old mid new is left right first second =
 
 -- ---- The array of one access
 
--- those of all statements, once each is passed
-pub all_accessed : (program : Program) (body : List Stmt) (i : ℕ) (each slice : List (Vec ℕ Global)) → body ≡ program.body → length body ≤ i
-    → values_in each ≡ flat_map accessed_in (take i body) → slice ≡ each → values_in slice ≡ map arrays_accessed (assignments program)
-all_accessed program body i each slice is passed so_far same =
-    ap values_in same ∙ so_far ∙ ap (flat_map accessed_in) (take_all i body passed ∙ is) ∙ of_program program.body
+-- those of all statements
+pub all_accessed : (program : Program) (body : List Stmt) (none each slice : List (Vec ℕ Global)) → none ≡ [] → body ≡ program.body
+    → values_in each ≡ values_in none ++ accessed_among body → slice ≡ each → values_in slice ≡ map arrays_accessed (assignments program)
+all_accessed program body none each slice empty is all same =
+    ap values_in same ∙ all ∙ ap (λ l. values_in l ++ accessed_among body) empty ∙ ap accessed_among is
 
 of_list : (program : Program) (statement access : ℕ) (list : List ℕ) (slice : List (Vec ℕ Global)) → values_in slice ≡ map arrays_accessed (assignments program)
     → get_or (values_in slice) statement [] ≡ list → get_or list access 0 ≡ array_of program statement access

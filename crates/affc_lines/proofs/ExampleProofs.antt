@@ -16,7 +16,7 @@ faults_of_sources = (refl, refl, refl, refl, refl, refl, refl, refl, refl, refl,
 
 pub limits_of_sources : LimitsOfSources
 unfolding digits
-limits_of_sources = (refl, refl, refl, refl, refl, refl, refl, refl, refl, refl, refl, refl, refl, refl, refl)
+limits_of_sources = (refl, refl, refl, refl, refl, refl, refl, refl, refl, refl, refl, refl, refl, refl, refl, refl)
 
 pub numbers_are_named : NumbersAreNamed
 unfolding digits
@@ -24,11 +24,11 @@ numbers_are_named = (refl, refl)
 
 pub runs_are_stuck : RunsAreStuck
 unfolding digits shape-the_row-Val-0 hidden-the_row-Val-0 shape-the_row-Stmt-0 hidden-the_row-Stmt-0 hidden
-runs_are_stuck = (refl, refl, refl, refl, refl, refl, refl)
+runs_are_stuck = (refl, refl, refl, refl, refl, refl, refl, refl)
 
 pub programs_are_wrong : ProgramsAreWrong
 unfolding digits shape-the_row-Val-0 hidden-the_row-Val-0 shape-the_row-Stmt-0 hidden-the_row-Stmt-0 hidden
-programs_are_wrong = (refl, refl, refl, refl, refl, refl)
+programs_are_wrong = (refl, refl, refl, refl, refl, refl, refl)
 
 pub schedules_are_wrong : SchedulesAreWrong
 unfolding digits

@@ -1,20 +1,21 @@
 -- The iterators of the loops round each assignment, statement by statement.
-use Rattle.std.proofs.Common.{arith, ◌≡◌, ◌≢◌, ℕ, zero, suc, ◌+◌, ◌-◌, ◌<◌, ◌≤◌, List, [], ◌∷◌, length, map, get_or, take, refl, sym, ap, subst, ◌∙◌, length-append}
+use Rattle.std.proofs.Common.{arith, ◌≡◌, ◌≢◌, ℕ, zero, suc, ◌+◌, ◌-◌, ◌<◌, ◌≤◌, List, [], ◌∷◌, ◌++◌, length, map, get_or, take, refl, sym, ap, subst, ◌∙◌, length-append}
 use Rattle.std.specs.List.{flat_map}
-use Rattle.std.proofs.lemmas.List.{get_or-map, length-map, take_all}
+use Rattle.std.proofs.lemmas.List.{get_or-map, get_or-append-add, get_or_append_left, length-map, take_all}
 use Rattle.std.proofs.lemmas.List.Concat.{get_or-flat_map}
-use Rattle.std.proofs.lemmas.List.Folds.{flat_map-map, length-flat_map-take}
-use Rattle.affc_ast.specs.declared.tree.Compare.{Compare}
+use Rattle.std.proofs.lemmas.List.Folds.{length-flat_map-take}
+use Rattle.affc_ast.specs.declared.tree.Cond.{Cond}
 use Rattle.affc_ast.specs.declared.tree.Ix.{Ix}
 use Rattle.affc_ast.specs.declared.tree.Local.{Local}
 use Rattle.affc_ast.specs.declared.tree.Program.{Program}
 use Rattle.affc_ast.specs.declared.tree.Rel.{Rel}
 use Rattle.affc_ast.specs.declared.tree.Stmt.{Stmt, For, If, Block}
 use Rattle.affc_ast.specs.Recursion.{by_stmt}
-use Rattle.affc_ast.specs.Trace.{joined}
+use Rattle.affc_ast.specs.Denials.{denied}
+use Rattle.affc_ast.proofs.Steps.{for_here, if_here, block_here}
 use Rattle.affc_domain.specs.Rounds.{Round, Loop, Test, rounds_step, rounds}
 use Rattle.affc_lines.specs.Meaning.{iterator_of, iterator_name}
-use Rattle.affc_lines.proofs.Layers.{by_for, by_if, by_block, flat_map-further, get_past}
+use Rattle.affc_lines.proofs.Layers.{of_body, flat_map-further, get_past}
 
 -- what stands round each assignment of a statement
 abbrev pub rounds_in : Stmt → List (List Round)
@@ -26,19 +27,22 @@ IsName each left loop name = (left < length each) × (name ≡ iterator_of (get_
 
 -- ---- Statements with a body
 
-of_body : (body slice : List Stmt) → slice ≡ body → joined (map rounds_in body) ≡ flat_map rounds_in slice
-of_body body slice same = flat_map-map (λ (x : List (List Round)). x) rounds_in body ∙ ap (flat_map rounds_in) (sym same)
-
 in_for : (s : Stmt) (iter : List ℕ) (low : Ix) (rel : Rel) (high : Ix) (body slice : List Stmt) → s ≡ For iter low rel high body → slice ≡ body
     → rounds_in s ≡ map (λ rs. Loop iter low rel high ∷ rs) (flat_map rounds_in slice)
 in_for s iter low rel high body slice e b =
-    ap rounds_in e ∙ by_for rounds_step iter low rel high body ∙ ap (map (λ rs. Loop iter low rel high ∷ rs)) (of_body body slice b)
+    ap rounds_in e ∙ for_here rounds_step iter low rel high body ∙ ap (map (λ rs. Loop iter low rel high ∷ rs)) (of_body rounds_step body slice b)
 
-in_if : (s : Stmt) (conds : List Compare) (body slice : List Stmt) → s ≡ If conds body → slice ≡ body → rounds_in s ≡ map (λ rs. Test conds ∷ rs) (flat_map rounds_in slice)
-in_if s conds body slice e b = ap rounds_in e ∙ by_if rounds_step conds body ∙ ap (map (λ rs. Test conds ∷ rs)) (of_body body slice b)
+-- what stands round the assignments of both bodies of a condition
+abbrev under : Cond → List (List Round) → List (List Round)
+under cond each = map (λ rs. Test cond ∷ rs) each
+
+in_if : (s : Stmt) (cond : Cond) (body slice other slice' : List Stmt) → s ≡ If cond body other → slice ≡ body → slice' ≡ other
+    → rounds_in s ≡ under cond (flat_map rounds_in slice) ++ under (denied cond) (flat_map rounds_in slice')
+in_if s cond body slice other slice' e b o =
+    ap rounds_in e ∙ if_here rounds_step cond body other ∙ (λ i. under cond (of_body rounds_step body slice b i) ++ under (denied cond) (of_body rounds_step other slice' o i))
 
 in_block : (s : Stmt) (locals : List Local) (body slice : List Stmt) → s ≡ Block locals body → slice ≡ body → rounds_in s ≡ flat_map rounds_in slice
-in_block s locals body slice e b = ap rounds_in e ∙ by_block rounds_step locals body ∙ of_body body slice b
+in_block s locals body slice e b = ap rounds_in e ∙ block_here rounds_step locals body ∙ of_body rounds_step body slice b
 
 -- ---- What is found in a body
 
@@ -53,18 +57,42 @@ module _ (r : Round) (each inside : List (List Round)) (is : each ≡ map (λ rs
   pub round_at : left < length inside → get_or each left [] ≡ r ∷ get_or inside left []
   round_at h = ap (λ l. get_or l left []) is ∙ get_or-map (λ rs. r ∷ rs) inside left [] [] h
 
--- under a condition
-pub tested : (s : Stmt) (conds : List Compare) (body slice : List Stmt) (left loop : ℕ) (name : List ℕ) → s ≡ If conds body → slice ≡ body
-    → IsName (flat_map rounds_in slice) left loop name → IsName (rounds_in s) left loop name
-tested s conds body slice left loop name e b h =
-    let is = in_if s conds body slice e b in (
-      within (Test conds) (rounds_in s) (flat_map rounds_in slice) is left h.0,
-      h.1 ∙ ap (λ rs. iterator_of rs loop) (sym (round_at (Test conds) (rounds_in s) (flat_map rounds_in slice) is left h.0)),
-    )
+-- under a condition, and where it is false
+module _ (s : Stmt) (cond : Cond) (body slice other slice' : List Stmt) (e : s ≡ If cond body other) (b : slice ≡ body) (o : slice' ≡ other) where
+  abbrev first : List (List Round)
+  first = flat_map rounds_in slice
 
-pub behind_test : (s : Stmt) (conds : List Compare) (body slice : List Stmt) (left rest : ℕ) → s ≡ If conds body → slice ≡ body
-    → left ≡ length (flat_map rounds_in slice) + rest → left ≡ length (rounds_in s) + rest
-behind_test s conds body slice left rest e b = behind (Test conds) (rounds_in s) (flat_map rounds_in slice) (in_if s conds body slice e b) left rest
+  abbrev second : List (List Round)
+  second = flat_map rounds_in slice'
+
+  both : rounds_in s ≡ under cond first ++ under (denied cond) second
+  both = in_if s cond body slice other slice' e b o
+
+  first_long : length (under cond first) ≡ length first
+  first_long = length-map first (λ rs. Test cond ∷ rs)
+
+  both_long : length (rounds_in s) ≡ length first + length second
+  both_long = ap length both ∙ length-append (under cond first) (under (denied cond) second) ∙ (λ i. first_long i + length-map second (λ rs. Test (denied cond) ∷ rs) i)
+
+  pub tested : (left loop : ℕ) (name : List ℕ) → IsName (flat_map rounds_in slice) left loop name → IsName (rounds_in s) left loop name
+  tested left loop name h =
+      let l = h.0 in
+      let n = both_long in
+      let here : get_or (rounds_in s) left [] ≡ Test cond ∷ get_or first left [] =
+      ap (λ each. get_or each left []) both ∙ get_or_append_left (under cond first) (under (denied cond) second) [] left (let k = first_long in omega (arith, l, k)) ∙ get_or-map (λ rs. Test cond ∷ rs) first left [] [] l in
+      (omega (arith, l, n), h.1 ∙ ap (λ rs. iterator_of rs loop) (sym here))
+
+  pub denied_there : (left rest loop : ℕ) (name : List ℕ) → left ≡ length (flat_map rounds_in slice) + rest → IsName (flat_map rounds_in slice') rest loop name → IsName (rounds_in s) left loop name
+  denied_there left rest loop name at h =
+      let l = h.0 in
+      let n = both_long in
+      let there : get_or (rounds_in s) left [] ≡ Test (denied cond) ∷ get_or second rest [] =
+      ap (λ each. get_or each left []) both ∙ ap (λ k. get_or (under cond first ++ under (denied cond) second) k []) (at ∙ ap (λ k. k + rest) (sym first_long))
+      ∙ get_or-append-add (under cond first) (under (denied cond) second) rest [] ∙ get_or-map (λ rs. Test (denied cond) ∷ rs) second rest [] [] l in
+      (omega (arith, l, n, at), h.1 ∙ ap (λ rs. iterator_of rs loop) (sym there))
+
+  pub behind_both : (left rest next : ℕ) → left ≡ length (flat_map rounds_in slice) + rest → rest ≡ length (flat_map rounds_in slice') + next → left ≡ length (rounds_in s) + next
+  behind_both left rest next at past = let n = both_long in omega (arith, n, at, past)
 
 -- in a block
 pub blocked : (s : Stmt) (locals : List Local) (body slice : List Stmt) (left loop : ℕ) (name : List ℕ) → s ≡ Block locals body → slice ≡ body

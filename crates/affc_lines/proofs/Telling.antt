@@ -1,5 +1,5 @@
 -- A line on err, written piece by piece.
-use Rattle.std.proofs.Common.{◌≡◌, ◌⊎◌, ◌<◌, ◌≤◌, ◌++◌, ℕ, List, [], codes, subst, Option, Some, None, Result, Ok, Err, IfErr, take, drop, refl, ap, sym, ◌∙◌, append_assoc, inl, inr, arith}
+use Rattle.std.proofs.Common.{◌≡◌, ◌<◌, ◌≤◌, ◌++◌, ℕ, List, [], codes, subst, Option, Some, None, Result, Ok, Err, IfErr, take, drop, refl, ap, sym, ◌∙◌, append_assoc, inl, inr, arith}
 use Rattle.std.proofs.lemmas.List.{take-append-drop, append-nil}
 use Rattle.affc_io.specs.Count.{Rose}
 use Rattle.affc_io.specs.Front.{IsFront}

@@ -1,5 +1,6 @@
 -- Each line with its status, written out. The place, the part, the item or the line of data is 7.
 use Rattle.std.specs.Prelude.{◌≡◌, ℕ, ℤ, false, pos, negsuc, List, [], ◌∷◌, Some, codes}
+use Rattle.affc_ast.specs.declared.tree.Cond.TheVariants as cond
 use Rattle.affc_ast.specs.declared.tree.Instance.{Instance}
 use Rattle.affc_ast.specs.declared.tree.Ix.{Ix}
 use Rattle.affc_ast.specs.declared.tree.Ix.TheVariants.{Name as Named}
@@ -90,6 +91,7 @@ LimitsOfSources =
     × (fault_line (Limit 7 limit.Comparisons) ≡ codes "affc: source at 7: limit comparisons")
     × (fault_line (Limit 7 limit.Literal) ≡ codes "affc: source at 7: limit literal")
     × (fault_line (Limit 7 limit.Coefficient) ≡ codes "affc: source at 7: limit coefficient")
+    × (fault_line (Limit 7 limit.Pieces) ≡ codes "affc: source at 7: limit pieces")
 
 -- ---- A program
 
@@ -101,6 +103,7 @@ j = Named (record { 0 = 2 })
 --   for (int64_t i = 0; i < N; i++) {
 --     t[i] = in[i];
 --     if (i < N) for (int64_t j = 0; j < i; j++) out[i] += t[j];
+--     else t[i] = out[i];
 --   }
 -- }
 abbrev pub summing : Program
@@ -114,7 +117,7 @@ summing = record {
   temps = record { name = codes "t"; role = Temp; extents = n ∷ [] } ∷ [];
   body = For (codes "i") (lit 0) Less n
       (assign temporary i input i
-      ∷ If (record { rel = Less; left = i; right = n } ∷ []) (For (codes "j") (lit 0) Less i (Assign (Some op.Add) output (i ∷ []) (Load temporary (j ∷ [])) ∷ []) ∷ [])
+      ∷ If (cond.Compare Less i n) (For (codes "j") (lit 0) Less i (Assign (Some op.Add) output (i ∷ []) (Load temporary (j ∷ [])) ∷ []) ∷ []) (assign temporary i output i ∷ [])
       ∷ [])
       ∷ [];
   prelude = false;
@@ -141,6 +144,7 @@ RunsAreStuck =
     × (stuck_line summing three (OutOfBounds (instance 0 (pos 2 ∷ [])) 1) ≡ codes "affc: bounds of t at N=3 in S0(2) access 1")
     × (stuck_line summing three (OutOfBounds here 0) ≡ codes "affc: bounds of out at N=3 in S1(2, 1) access 0")
     × (stuck_line summing three (OutOfBounds here 2) ≡ codes "affc: bounds of out at N=3 in S1(2, 1) access 2")
+    × (stuck_line summing three (OutOfBounds (instance 2 (pos 2 ∷ [])) 0) ≡ codes "affc: bounds of out at N=3 in S2(2) access 0")
     × (stuck_line summing three (Unwritten here 1) ≡ codes "affc: unwritten t at N=3 in S1(2, 1) access 1")
     × (stuck_line summing three (Overflow 7) ≡ codes "affc: overflow at node 7")
 
@@ -148,6 +152,7 @@ abbrev pub ProgramsAreWrong : Type 0
 ProgramsAreWrong =
     (meaning_line summing (meaning.IteratorRange 0 0) ≡ codes "affc: iterator range of i in S0")
     × (meaning_line summing (meaning.IteratorRange 1 1) ≡ codes "affc: iterator range of j in S1")
+    × (meaning_line summing (meaning.IteratorRange 2 0) ≡ codes "affc: iterator range of i in S2")
     × (meaning_line summing meaning.Context ≡ codes "affc: context is empty")
     × (meaning_line summing (meaning.Extent temporary three) ≡ codes "affc: extent of t at N=3")
     × (meaning_line summing (meaning.Bounds temporary 1 three here) ≡ codes "affc: bounds of t at N=3 in S1(2, 1) access 1")

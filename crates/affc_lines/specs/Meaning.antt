@@ -15,7 +15,7 @@ use Rattle.affc_lines.specs.Stuck.{stuck_line}
 abbrev pub iterators_of : List Round → List (List ℕ)
 iterators_of [] = []
 iterators_of (Loop iter low rel high ∷ rs) = iter ∷ iterators_of rs
-iterators_of (Test conds ∷ rs) = iterators_of rs
+iterators_of (Test cond ∷ rs) = iterators_of rs
 
 -- that of the loop of this number
 abbrev pub iterator_of : List Round → (loop : ℕ) → List ℕ

@@ -3,7 +3,7 @@ use Rattle.std.specs.Prelude.{ℕ, List, ◌++◌, codes, decimal}
 use Rattle.affc_grammar.specs.declared.fault.NameWhy.{NameWhy}
 use Rattle.affc_grammar.specs.declared.fault.NameWhy.TheVariants.{Unknown, Twice, Reserved, Const, Kind, NoRange}
 use Rattle.affc_grammar.specs.declared.fault.LimitName.{LimitName}
-use Rattle.affc_grammar.specs.declared.fault.LimitName.TheVariants.{Size, Tokens, Run, Depth, Items, Parameters, Range, Loops, Statements, Empty, Accesses, Dimensions, Comparisons, Literal, Coefficient}
+use Rattle.affc_grammar.specs.declared.fault.LimitName.TheVariants.{Size, Tokens, Run, Depth, Items, Parameters, Range, Loops, Statements, Empty, Accesses, Dimensions, Comparisons, Literal, Coefficient, Pieces}
 use Rattle.affc_parse.specs.declared.fault.ParseFault.{ParseFault}
 use Rattle.affc_parse.specs.declared.fault.ParseFault.TheVariants.{Memory, BadByte, OpenComment, LongNumber, Syntax, Name, NotAffine, Limit}
 
@@ -31,6 +31,7 @@ limit_words Dimensions = codes "limit dimensions"
 limit_words Comparisons = codes "limit comparisons"
 limit_words Literal = codes "limit literal"
 limit_words Coefficient = codes "limit coefficient"
+limit_words Pieces = codes "limit pieces"
 
 -- what is said of a source at a place
 abbrev pub source_line : (place : ℕ) → (words : List ℕ) → List ℕ

@@ -45,7 +45,14 @@ fn iterator_in<'a>(stmt: &'a Stmt, left: u32, loop_number: u32) -> Result<&'a st
                 Ok(name) => Ok(name),
             }
         }
-        Stmt::If { conds: _, body } => iterator_among(body.as_slice(), left, loop_number),
+        Stmt::If {
+            cond: _,
+            body,
+            other,
+        } => match iterator_among(body.as_slice(), left, loop_number) {
+            Ok(name) => Ok(name),
+            Err(rest) => iterator_among(other.as_slice(), rest, loop_number),
+        },
         Stmt::Block { locals: _, body } => iterator_among(body.as_slice(), left, loop_number),
     }
 }

@@ -101,6 +101,7 @@ fn limit_words(which: LimitName) -> &'static str
         LimitName::Comparisons => "limit comparisons",
         LimitName::Literal => "limit literal",
         LimitName::Coefficient => "limit coefficient",
+        LimitName::Pieces => "limit pieces",
     }
 }
 

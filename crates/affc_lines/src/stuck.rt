@@ -1,5 +1,5 @@
 //! The line that says why a run is stuck.
-ghost use Rattle.std.specs.Prelude.{◌≡◌, ◌++◌, ◌∷◌, [], OnOk, IfOk, MatchResult, map, codes, string_bytes};
+ghost use Rattle.std.specs.Prelude.{◌≡◌, ◌++◌, ◌∷◌, [], OnOk, IfOk, MatchResult, map, flat_map, codes, string_bytes};
 ghost use Rattle.affc_ast.specs.Recursion.{by_stmt};
 ghost use Rattle.affc_ast.specs.Trace.{assignments_step};
 ghost use Rattle.affc_interp.specs.Arrays.{values_in};
@@ -91,11 +91,11 @@ fn accessed(
 }
 
 // Adds those of each assignment in the statement.
-#[tactic(auto, using(affc_ast::proofs::Outs::stmt_outs))]
+#[cycle(add_accessed)]
 fn add_accessed(alloc: Global, each: &mut Vec<Vec<u32>>, stmt: &Stmt) -> Result<(), AllocError>
     ensures { OnOk result (values_in each.new.items ≡ values_in each.old.items ++ map arrays_accessed (by_stmt assignments_step stmt.now)) }
 {
-    let body = match stmt {
+    match stmt {
         Stmt::Assign {
             op,
             array,
@@ -104,7 +104,7 @@ fn add_accessed(alloc: Global, each: &mut Vec<Vec<u32>>, stmt: &Stmt) -> Result<
         } => {
             let arrays = accessed(alloc, *op, *array, value)?;
             each.push(arrays)?;
-            return Ok(());
+            Ok(())
         }
         Stmt::For {
             iter: _,
@@ -112,12 +112,30 @@ fn add_accessed(alloc: Global, each: &mut Vec<Vec<u32>>, stmt: &Stmt) -> Result<
             rel: _,
             high: _,
             body,
-        } => body,
-        Stmt::If { conds: _, body } => body,
-        Stmt::Block { locals: _, body } => body,
-    };
-    for inner in body.as_slice() {
-        add_accessed(alloc, each, inner)?;
+        } => add_each_accessed(alloc, each, body.as_slice()),
+        Stmt::If {
+            cond: _,
+            body,
+            other,
+        } => {
+            add_each_accessed(alloc, each, body.as_slice())?;
+            add_each_accessed(alloc, each, other.as_slice())
+        }
+        Stmt::Block { locals: _, body } => add_each_accessed(alloc, each, body.as_slice()),
+    }
+}
+
+// The same for statements one after the other.
+#[cycle(add_accessed)]
+fn add_each_accessed(
+    alloc: Global,
+    each: &mut Vec<Vec<u32>>,
+    stmts: &[Stmt],
+) -> Result<(), AllocError>
+    ensures { OnOk result (values_in each.new.items ≡ values_in each.old.items ++ map arrays_accessed (flat_map (by_stmt assignments_step) stmts.now)) }
+{
+    for stmt in stmts {
+        add_accessed(alloc, each, stmt)?;
     }
     Ok(())
 }
@@ -132,9 +150,7 @@ fn array_of(
     ensures { IfOk result (λ array. array ≡ array_of program.now statement access) }
 {
     let mut each = Vec::new(alloc);
-    for stmt in program.body.as_slice() {
-        add_accessed(alloc, &mut each, stmt)?;
-    }
+    add_each_accessed(alloc, &mut each, program.body.as_slice())?;
     let Some(arrays) = each.get(statement as usize) else {
         return Ok(0);
     };

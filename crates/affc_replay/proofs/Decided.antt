@@ -10,6 +10,7 @@ use Rattle.affc_trace.specs.declared.schedule.Schedule.{Schedule}
 use Rattle.affc_domain.specs.Plain.{IsPlain}
 use Rattle.affc_domain.specs.Ranges.{first_wide}
 use Rattle.affc_basis.specs.declared.fold.Fold.{Fold}
+use Rattle.affc_plain.specs.Laws.{IsBare}
 use Rattle.affc_nest.specs.declared.nest.Nest.{Nest}
 use Rattle.affc_nest.specs.Laws.{HasNest, NamesArrays}
 use Rattle.affc_nest.specs.Nests.{nest_of}
@@ -33,7 +34,7 @@ use Rattle.affc_replay.proofs.Written.{stays_within, written_throughout}
 
 -- ---- What a text gives
 
-pub reads_temporaries : (text : List ℕ) (program : Program) → Reads text program → program.prelude ≡ false → HasOwnTemporaries program
+pub reads_temporaries : (text : List ℕ) (program : Program) → Reads text program → IsBare program → HasOwnTemporaries program
 reads_temporaries text program reads bare =
     let roles = reads_roles text program reads bare in
     record { last = temporary_far program roles; own = far_temporary program roles }

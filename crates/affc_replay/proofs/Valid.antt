@@ -1,11 +1,12 @@
 -- What is valid is replayed, and nothing else.
-use Rattle.std.proofs.Common.{◌≡◌, ℕ, true, false, true≢false, List, [], ◌∷◌, ◌++◌, length, map, Some, refl, sym, ap, subst, ◌∙◌, arith}
+use Rattle.std.proofs.Common.{◌≡◌, ℕ, true, false, true≢false, inl, inr, List, [], ◌∷◌, ◌++◌, length, map, Some, refl, sym, ap, subst, ◌∙◌, arith}
 use Rattle.std.specs.List.{All}
 use Rattle.std.proofs.lemmas.List.Elements.{All-nil, All-cons}
 use Rattle.std.proofs.lemmas.Option.{none-some, same_Some}
 use Rattle.affc_rows.specs.Forms.{Affine}
 use Rattle.affc_ast.specs.declared.tree.ArrayId.{ArrayId}
 use Rattle.affc_ast.specs.declared.tree.Program.{Program}
+use Rattle.affc_ast.specs.Joined.{has_joined_tests}
 use Rattle.affc_grammar.specs.Limits.{limits_of}
 use Rattle.affc_grammar.specs.Reads.{Reads}
 use Rattle.affc_grammar.proofs.Texts.{one_tree}
@@ -120,9 +121,11 @@ module _ (source schedule certificate : List ℕ) (v : IsValid source schedule c
   no_fault fault text tree given reads f = subst (λ t. PlanReads t v.program v.plan) (same_Some schedule text given) v.planned
 
 pub valid_is_not_refused : ValidIsNotRefused
-valid_is_not_refused source schedule certificate (Source fault) v says = absurd (says.is_fault (fault_is_memory source fault v.program says.answers v.reads))
+valid_is_not_refused source schedule certificate (Source fault) v (inl says) = absurd (says.is_fault (fault_is_memory source fault v.program says.answers v.reads))
+valid_is_not_refused source schedule certificate (Source fault) v (inr says) =
+    absurd (true≢false (sym v.plain.tests ∙ sym (ap has_joined_tests (same_tree source schedule certificate v says.is.tree says.is.reads)) ∙ says.is.tests))
 valid_is_not_refused source schedule certificate (Printed place) v says =
-    absurd (true≢false (sym says.with_prelude ∙ ap (λ (t : Program). t.prelude) (same_tree source schedule certificate v says.tree says.reads) ∙ v.plain))
+    absurd (true≢false (sym says.with_prelude ∙ ap (λ (t : Program). t.prelude) (same_tree source schedule certificate v says.tree says.reads) ∙ v.plain.prelude))
 valid_is_not_refused source schedule certificate (Schedule fault) v says =
     absurd
     (says.is_fault

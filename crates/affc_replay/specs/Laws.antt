@@ -7,6 +7,7 @@ use Rattle.affc_trace.specs.declared.schedule.Schedule.{Schedule}
 use Rattle.affc_split.specs.Budgets.{Account}
 use Rattle.affc_domain.specs.Ranges.{first_wide}
 use Rattle.affc_basis.specs.declared.fold.Fold.{Fold}
+use Rattle.affc_plain.specs.Laws.{IsBare}
 use Rattle.affc_nest.specs.Nests.{nest_of}
 use Rattle.affc_rewrite.specs.Rewrite.{folded_program}
 use Rattle.affc_loopends.specs.declared.scanned.scanned.Scanned.{Scanned}
@@ -25,7 +26,7 @@ use Rattle.affc_replay.specs.declared.refusal.Refusal.TheVariants.{Memory}
 pub record IsValid (source schedule certificate : List ℕ) : Type 0 where
   pub program : Program
   pub reads : Reads source program
-  pub plain : program.prelude ≡ false
+  pub plain : IsBare program
   pub near : first_wide program ≡ None
   pub plan : Plan
   pub planned : HasPlan program (Some schedule) plan

@@ -12,7 +12,7 @@ use Rattle.affc_accept.specs.declared.fault.AcceptFault.{AcceptFault}
 use Rattle.affc_accept.specs.declared.fault.AcceptFault.TheVariants as accept
 use Rattle.affc_driver.specs.declared.unread.Unread.{Unread}
 use Rattle.affc_driver.specs.declared.unread.Unread.TheVariants as unread
-use Rattle.affc_driver.specs.Refusals.{IsSourceFault, IsPrinted, HasSchedFault, HasMeaningFault, IsPlanned}
+use Rattle.affc_driver.specs.Refusals.{IsSourceRefused, IsPrinted, HasSchedFault, HasMeaningFault, IsPlanned}
 use Rattle.affc_replay.specs.declared.refusal.Refusal.{Refusal}
 use Rattle.affc_replay.specs.declared.refusal.Refusal.TheVariants.{Source, Printed, Schedule, IteratorRange, Certificate, Check, Memory}
 
@@ -50,7 +50,7 @@ pub record HasRightText (source schedule certificate : List ℕ) : Type 0 where
 
 -- When they are refused so. Want of memory may come at any time.
 abbrev pub ReplayRefuses : (source schedule certificate : List ℕ) → Refusal → Type 0
-ReplayRefuses source schedule certificate (Source fault) = IsSourceFault source fault
+ReplayRefuses source schedule certificate (Source fault) = IsSourceRefused source fault
 ReplayRefuses source schedule certificate (Printed place) = IsPrinted source place
 ReplayRefuses source schedule certificate (Schedule fault) = HasSchedFault source (Some schedule) fault
 ReplayRefuses source schedule certificate (IteratorRange statement loop) = HasMeaningFault source (Some schedule) (meaning.IteratorRange statement loop) × HasRightText source schedule certificate

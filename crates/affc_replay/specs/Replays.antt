@@ -7,6 +7,7 @@ use Rattle.affc_trace.specs.Dataflow.{LivePair}
 use Rattle.affc_trace.specs.Laws.{in_target_order}
 use Rattle.affc_basis.specs.declared.fold.Fold.{Fold}
 use Rattle.affc_basis.specs.Folds.{place}
+use Rattle.affc_plain.specs.Laws.{IsBare}
 use Rattle.affc_nest.specs.Nests.{nest_of}
 use Rattle.affc_rewrite.specs.Rewrite.{folded_program}
 use Rattle.affc_loopends.specs.declared.scanned.scanned.Scanned.{Scanned}
@@ -34,7 +35,7 @@ pub record ReplaysTo (source schedule certificate text report : List ℕ) : Type
   pub scans : Scans (folded_program compiles.source folds) plan.schedule scanned
   pub loops : compiles.target ≡ scanned.program
   pub printed : text ≡ printed_text compiles.target
-  pub plain : compiles.source.prelude ≡ false
+  pub plain : IsBare compiles.source
   pub within : StaysWithin compiles.source
   pub written : WrittenThroughout compiles.source
   pub planned : HasPlan compiles.source (Some schedule) plan

@@ -9,7 +9,7 @@ pub returns-in_default : goal.returns-in_default
 returns-in_default c =
     let h = c.in_default.ensures.lookup in
     let all : values_in c.deref.result.now ≡ map arrays_accessed (assignments c.args.program.now) =
-    all_accessed c.args.program.now c.as_slice-stmt-items.result.now c.loop-stmt.stmt-index c.loop-stmt.each.items c.deref.result.now c.as_slice-stmt-items.ensures c.loop-stmt-test.false c.loop-stmt.invariant c.deref.ensures.value in
+    all_accessed c.args.program.now c.as_slice.result.now c.new-each.result.items c.add_each_accessed.new.each.items c.deref.result.now c.new-each.ensures.items c.as_slice.ensures c.in_ok-add_each_accessed.ensures c.deref.ensures.value in
     no_statement c.args.program.now c.args.statement c.args.access c.deref.result.now all h.3
 
 pub returns-in-Some-get : goal.returns-in-Some-get
@@ -17,7 +17,7 @@ returns-in-Some-get c =
     let h = c.in-Some.ensures.lookup in
     let k = c.in-Some-get.ensures.lookup in
     let all : values_in c.deref.result.now ≡ map arrays_accessed (assignments c.args.program.now) =
-    all_accessed c.args.program.now c.as_slice-stmt-items.result.now c.loop-stmt.stmt-index c.loop-stmt.each.items c.deref.result.now c.as_slice-stmt-items.ensures c.loop-stmt-test.false c.loop-stmt.invariant c.deref.ensures.value in
+    all_accessed c.args.program.now c.as_slice.result.now c.new-each.result.items c.add_each_accessed.new.each.items c.deref.result.now c.new-each.ensures.items c.as_slice.ensures c.in_ok-add_each_accessed.ensures c.deref.ensures.value in
     access_at c.args.program.now c.args.statement c.args.access c.in-Some-get.array.now c.deref.result.now c.in-Some.arrays.now c.deref-2.result.now all h.3.0 h.1 c.deref-2.ensures.value (k.3.1 0)
 
 pub returns : goal.returns
@@ -25,5 +25,5 @@ returns c =
     let h = c.in-Some.ensures.lookup in
     let k = c.in-None.ensures.lookup in
     let all : values_in c.deref.result.now ≡ map arrays_accessed (assignments c.args.program.now) =
-    all_accessed c.args.program.now c.as_slice-stmt-items.result.now c.loop-stmt.stmt-index c.loop-stmt.each.items c.deref.result.now c.as_slice-stmt-items.ensures c.loop-stmt-test.false c.loop-stmt.invariant c.deref.ensures.value in
+    all_accessed c.args.program.now c.as_slice.result.now c.new-each.result.items c.add_each_accessed.new.each.items c.deref.result.now c.new-each.ensures.items c.as_slice.ensures c.in_ok-add_each_accessed.ensures c.deref.ensures.value in
     no_access c.args.program.now c.args.statement c.args.access c.deref.result.now c.in-Some.arrays.now c.deref-2.result.now all h.3.0 h.1 c.deref-2.ensures.value k.3
